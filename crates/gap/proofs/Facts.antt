@@ -1,0 +1,27 @@
+-- The facts of the frame, as the crates above cite them. Proved in Frame.antt and Back.antt.
+use Prim.Native.Nat.{ℕ, _+_, _≤_, _<_}
+use mathlib.Core.Path.{_≡_}
+use mathlib.Core.Logic.{_≢_}
+use mathlib.Core.Bool.{true}
+use Rattle.laws.specs.Ring.{distance}
+use Rattle.plan.specs.declared.Plan.{Plan}
+use Rattle.plan.specs.Sending.{own, sends}
+use Rattle.plan.specs.Tested.{Sound}
+use Rattle.gap.specs.Gap.{predecessor, gapFor, gapOf, slotsToNext}
+
+-- The next sending slot after p is d slots away: a node sends there, and no node sends nearer.
+pub record NextAt (P : Plan) (p d : ℕ) : Type 0 where
+  pub one : 1 ≤ d
+  pub short : d < P .frame .0
+  pub by : ℕ
+  pub below : by < P .nodes .0
+  pub away : distance (P .frame .0) p (own P by) ≡ d
+  pub near : (j : ℕ) → j < P .nodes .0 → 1 ≤ distance (P .frame .0) p (own P j) → d ≤ distance (P .frame .0) p (own P j)
+
+-- The predecessor q of node i's sending slot: a sending slot, another one, and node i's is the next after it.
+pub record Before (P : Plan) (i q : ℕ) : Type 0 where
+  pub within : q < P .frame .0
+  pub sending : sends P q ≡ true
+  pub other : q ≢ own P i
+  pub away : distance (P .frame .0) q (own P i) ≡ gapFor P i
+  pub next : NextAt P q (gapFor P i)

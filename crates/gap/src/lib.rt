@@ -1,0 +1,1 @@
+// The gap of a plan: the longest way from a sending slot to the next.

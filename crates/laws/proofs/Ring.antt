@@ -1,0 +1,76 @@
+-- Laws of the places round a ring: every remainder by the ring's size is taken away here.
+use Prim.Native.Nat.{ℕ, _+_, _-_, _%_, _≤_, _<_}
+use mathlib.Core.Path.{_≡_, refl, sym, ap, _∙_}
+use native.Mathlib.Nat.{mod-eq-of-lt, mod-eq-sub-mod, mod-lt}
+use native.Mathlib.Decide.{decLe, decLt}
+use native.Mathlib.Omega.{arith}
+use Rattle.laws.specs.Ring.{distance}
+
+pub mod-once : (a C : ℕ) → C ≤ a → a < C + C → a % C ≡ a - C
+mod-once a C h l = mod-eq-sub-mod h ∙ mod-eq-of-lt (omega arith)
+
+-- d places on from p, round the ring, is s
+pub data Reaches (C p d s : ℕ) : Type 0 where
+  on : p + d ≡ s → Reaches C p d s
+  round : p + d ≡ s + C → Reaches C p d s
+
+pub distance-reaches : (C p s : ℕ) → p < C → s < C → Reaches C p (distance C p s) s
+unfolding distance
+distance-reaches C p s hp hs = go (decLe p s)
+  where
+    go : Dec (p ≤ s) → Reaches C p (distance C p s) s
+    go (yes h) = on (omega (arith, mod-once (s + C - p) C (omega arith) (omega arith)))
+    go (no h) = round (let e : (s + C - p) % C ≡ s + C - p = mod-eq-of-lt (omega arith) in omega arith)
+
+pub distance-below : (C p s : ℕ) → 0 < C → distance C p s < C
+unfolding distance
+distance-below C p s h = mod-lt (s + C - p) h
+
+-- the distance is the one number below C that leads from p to s
+pub distance-is : (C p s d : ℕ) → p < C → s < C → d < C → Reaches C p d s → distance C p s ≡ d
+distance-is C p s d hp hs hd (on e) = go (distance-reaches C p s hp hs)
+  where
+    go : Reaches C p (distance C p s) s → distance C p s ≡ d
+    go (on q) = omega arith
+    go (round q) = omega (arith, distance-below C p s (omega arith))
+distance-is C p s d hp hs hd (round e) = go (distance-reaches C p s hp hs)
+  where
+    go : Reaches C p (distance C p s) s → distance C p s ≡ d
+    go (on q) = omega (arith, distance-below C p s (omega arith))
+    go (round q) = omega arith
+
+pub distance-self : (C p : ℕ) → p < C → distance C p p ≡ 0
+distance-self C p h = distance-is C p p 0 h h (omega arith) (on (omega arith))
+
+-- slots at the same distance are the same slot
+pub distance-same : (C p s s′ : ℕ) → p < C → s < C → s′ < C → distance C p s ≡ distance C p s′ → s ≡ s′
+distance-same C p s s′ hp hs ht e = go (distance-reaches C p s hp hs) (distance-reaches C p s′ hp ht)
+  where
+    go : Reaches C p (distance C p s) s → Reaches C p (distance C p s′) s′ → s ≡ s′
+    go (on a) (on b) = omega arith
+    go (on a) (round b) = omega arith
+    go (round a) (on b) = omega arith
+    go (round a) (round b) = omega arith
+
+-- one place on
+pub next-place : (C s : ℕ) → s < C → Reaches C s 1 ((s + 1) % C)
+next-place C s h = go (decLt (s + 1) C)
+  where
+    go : Dec (s + 1 < C) → Reaches C s 1 ((s + 1) % C)
+    go (yes l) = on (sym (mod-eq-of-lt l))
+    go (no l) = round (omega (arith, mod-once (s + 1) C (omega arith) (omega arith)))
+
+pub next-below : (C s : ℕ) → 0 < C → (s + 1) % C < C
+next-below C s h = mod-lt (s + 1) h
+
+-- one place on is one farther, short of a whole round
+pub distance-next : (C p s : ℕ) → p < C → s < C → distance C p s + 1 < C → distance C p ((s + 1) % C) ≡ distance C p s + 1
+distance-next C p s hp hs h =
+    distance-is C p ((s + 1) % C) (distance C p s + 1) hp (next-below C s (omega arith)) h
+    (go (distance-reaches C p s hp hs) (next-place C s hs))
+  where
+    go : Reaches C p (distance C p s) s → Reaches C s 1 ((s + 1) % C) → Reaches C p (distance C p s + 1) ((s + 1) % C)
+    go (on a) (on b) = on (omega arith)
+    go (on a) (round b) = round (omega arith)
+    go (round a) (on b) = round (omega arith)
+    go (round a) (round b) = on (omega (arith, next-below C s (omega arith)))

@@ -1,0 +1,4 @@
+pub mod Row
+pub mod Below
+pub mod Over
+pub mod Ring

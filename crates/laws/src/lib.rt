@@ -1,0 +1,1 @@
+// What knows nothing of radios: definitions in specs/, their laws in proofs/. There is no code.

@@ -1,0 +1,2 @@
+-- Document 01's starred numbers.
+use Prim.Native.Nat.{ℕ}

@@ -1,0 +1,4 @@
+pub mod State
+pub mod Moves
+pub mod Steps
+pub mod Reckoning

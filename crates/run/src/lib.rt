@@ -1,0 +1,63 @@
+// A run, step by step: the state, the steps, out of step, and a node's reckoning.
+use plan::Node;
+use plan::Slot;
+use plan::Tick;
+use plan::Time;
+
+pub enum Mode {
+    Waiting,
+    AboutToSend,
+    Sending,
+}
+
+// The slot of the last message, or the mark that none was sent.
+pub enum Last {
+    At(Slot),
+    Nothing,
+}
+
+pub struct NodeState {
+    pub clock: Tick,
+    pub slot: Slot,
+    // time since its own last tick
+    pub time: Time,
+    pub mode: Mode,
+    // a message is pending
+    pub pending: bool,
+}
+
+// A run as it is handed in, tested or not. Places of `nodes` from N on are never tested and never change.
+pub struct Run {
+    pub nodes: [NodeState; 32],
+    pub last: Last,
+}
+
+pub enum Step {
+    Delay(Time),
+    TickOf(Node),
+    SendOf(Node),
+}
+
+pub enum Answer {
+    Done,
+    Refused(u8),
+}
+
+// The answer to a step, and the run after it: the run as it was, where the step was refused.
+pub struct Stepped {
+    pub answer: Answer,
+    pub run: Run,
+}
+
+// Whether a run is out of step: the lowest sending node with a node elsewhere, and the lowest such node.
+pub enum Apart {
+    InStep,
+    Out(Node, Node),
+    Refused(u8),
+}
+
+// A node's reckoning, in ticks.
+pub enum Reckoned {
+    Ticks(u32),
+    Refused(u8),
+}
