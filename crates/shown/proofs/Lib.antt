@@ -1,1 +1,4 @@
 pub mod Worked
+pub mod Sums
+pub mod Play
+pub mod Progress
