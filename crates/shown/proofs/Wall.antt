@@ -1,0 +1,248 @@
+-- After the pivot, while nobody has sent since: all read one clock on the wall, the fast node by min and the others by max.
+use Prim.Native.Nat.{ℕ, zero, suc, _+_, _*_, _≤_, _<_}
+use mathlib.Core.Path.{_≡_, refl, sym, ap, _∙_}
+use mathlib.Core.Logic.{_≢_}
+use mathlib.Core.Bool.{Bool, true, false, cond, not, _&&_}
+use native.Mathlib.Nat.{lt-of-mul-lt-mul-right, mul-le-mul-right, mul-le-mul-left}
+use native.Mathlib.Decide.{ℕ-discrete, decLe}
+use native.Mathlib.Omega.{arith}
+use borrow.Author.Tests.{eq-eqb, ne-eqb, eqb-true}
+use lib.Dec.{eqb}
+use lib.ListN.{length}
+use Rattle.laws.specs.Ring.{distance}
+use Rattle.laws.proofs.Bools.{clash, cond-by}
+use Rattle.laws.proofs.Ring.{distance-below}
+use Rattle.plan.specs.declared.Plan.{Plan}
+use Rattle.plan.specs.Sending.{own}
+use Rattle.plan.specs.Tested.{Sound}
+use Rattle.plan.proofs.Sound.{own-in-frame}
+use Rattle.run.specs.declared.Mode.{Mode}
+use Rattle.run.specs.declared.Mode.the-variants.{Waiting, AboutToSend, Sending}
+use Rattle.run.specs.declared.NodeState.{NodeState}
+use Rattle.run.specs.declared.Run.{Run}
+use Rattle.run.specs.State.{node, isAbout, isSending}
+use Rattle.run.specs.Moves.{modeAfter, nodeTicked, nodeDelayed, delayed, ticked}
+use Rattle.run.proofs.Nodes.{node-delayed, node-ticked, node-still}
+use Rattle.shown.specs.declared.Mark.{Mark}
+use Rattle.shown.specs.declared.Mark.the-variants.{Before, In, After}
+use Rattle.shown.specs.declared.Place.{Place}
+use Rattle.shown.specs.declared.Parts.{Parts}
+use Rattle.shown.specs.Shown.{dueTime, goesFirst, goesSecond}
+use Rattle.shown.proofs.Play.{OnTime, Quiet, TickMove, DelayMove, Turn, goes-first, goes-second, goes-third}
+use Rattle.shown.proofs.Progress.{bump, bump-same, bump-other, all-ticked, all-delayed}
+use Rattle.shown.proofs.Stands.{Stands, tick-stands, about-count, busy, at-place, delay-stands}
+use Rattle.shown.proofs.Roles.{Roles, farOf, pivot-in-frame, far-away, far-none}
+
+-- who neither sends nor is about to does not send after its tick
+pub still-silent : (P : Plan) (w c s : ℕ) (m : Mode) → isAbout m ≡ false → isSending m ≡ false → isSending (modeAfter P w c s m) ≡ false
+unfolding modeAfter
+still-silent P w c s Waiting a e = cond-by (λ (m : Mode). isSending m ≡ false) (eqb s w && eqb (c + 1) (P .guard .0)) AboutToSend Waiting (λ t. refl) (λ t. refl)
+still-silent P w c s AboutToSend a e = e
+still-silent P w c s Sending a e = clash true refl e
+
+pub sending-before : (P : Plan) (w c s : ℕ) (m : Mode) → isAbout m ≡ false → isSending (modeAfter P w c s m) ≡ true → isSending m ≡ true
+sending-before P w c s m a e = go (isSending m) refl
+  where
+    go : (b : Bool) → isSending m ≡ b → isSending m ≡ true
+    go true h = h
+    go false h = clash (isSending (modeAfter P w c s m)) e (still-silent P w c s m a h)
+
+-- the place after the pivot with the run r
+abbrev pub later : Run → Place
+later r = record { run = r; mark = After }
+
+-- after the pivot the fast node is due at min and the others at max, and the fast node goes first
+module _ (P : Plan) (c : Parts) where
+  pub due-fast : dueTime P c After (c .fast .0) ≡ P .min .0
+  unfolding dueTime
+  due-fast = rw (eq-eqb (c .fast .0) (c .fast .0) refl)
+
+  pub due-slow : (i : ℕ) → i ≢ c .fast .0 → dueTime P c After i ≡ P .max .0
+  unfolding dueTime
+  due-slow i n = rw (ne-eqb i (c .fast .0) n)
+
+  pub fast-goes-first : (r : Run) (i : ℕ) → c .fast .0 < P .nodes .0 → i ≢ c .fast .0 → TickMove P c (later r) i → node r (c .fast .0) .time .0 ≢ P .min .0
+  unfolding goesFirst
+  fast-goes-first r i l n m e = absurd (go (m .turn))
+    where
+      not-first : ((j : ℕ) → j < P .nodes .0 → node r j .time .0 ≡ dueTime P c After j → goesFirst P c r After j ≡ false) → ⊥
+      not-first h = clash (eqb (c .fast .0) (c .fast .0)) (eq-eqb (c .fast .0) (c .fast .0) refl) (h (c .fast .0) l (e ∙ sym due-fast))
+
+      go : Turn P c (later r) i → ⊥
+      go (goes-first h) = n (eqb-true i (c .fast .0) h)
+      go (goes-second h k) = not-first h
+      go (goes-third h k) = not-first h
+
+-- the fast node, which has ticked j times since the pivot
+pub record Fast (P : Plan) (c : Parts) (j : ℕ) (a : NodeState) : Type 0 where
+  pub stands : Stands P (c .p .0) (own P (c .fast .0)) (P .guard .0 + 1 + j) a
+  pub time : a .time .0 ≤ P .min .0
+  pub now : isAbout (a .mode) ≡ true → a .time .0 ≡ 0
+  pub silent : isSending (a .mode) ≡ false
+  pub limit : 1 + j ≤ farOf P c (c .fast .0) * P .ticks .0
+
+-- another node i, which has ticked m times, beside the fast node f with j ticks
+pub record Slow (P : Plan) (c : Parts) (j : ℕ) (f : NodeState) (i m : ℕ) (a : NodeState) : Type 0 where
+  pub stands : Stands P (c .p .0) (own P i) (P .guard .0 + m) a
+  pub time : a .time .0 ≤ P .max .0
+  pub wall : j * P .min .0 + f .time .0 ≡ m * P .max .0 + a .time .0
+  pub first : f .time .0 ≡ P .min .0 → 0 < a .time .0
+  pub first-about : isAbout (f .mode) ≡ true → 0 < a .time .0
+  pub now : isAbout (a .mode) ≡ true → (1 ≤ m) × (a .time .0 ≡ 0)
+  pub alone : isSending (a .mode) ≡ true → own P i ≡ c .p .0
+
+pub record Wall (P : Plan) (c : Parts) (r : Run) (m : ℕ → ℕ) : Type 0 where
+  pub fast : Fast P c (m (c .fast .0)) (node r (c .fast .0))
+  pub slow : (i : ℕ) → i < P .nodes .0 → i ≢ c .fast .0 → Slow P c (m (c .fast .0)) (node r (c .fast .0)) i (m i) (node r i)
+
+module _ (P : Plan) (o : Sound P) (c : Parts) (R : Roles P c) where
+  -- one node
+
+  -- the others never have more ticks than the fast node
+  pub not-ahead : (j : ℕ) (f : NodeState) (i m : ℕ) (a : NodeState) → f .time .0 ≤ P .min .0 → Slow P c j f i m a → m ≤ j
+  not-ahead j f i m a l s = go (decLe m j)
+    where
+      go : Dec (m ≤ j) → m ≤ j
+      go (yes h) = h
+      go (no h) =
+          let x : (j + 1) * P .max .0 ≤ m * P .max .0 = mul-le-mul-right (P .max .0) (omega arith) in
+          let y : j * P .min .0 ≤ j * P .max .0 = mul-le-mul-left j (o .min-max) in
+          absurd (omega (arith, s .first (omega (arith, s .wall, o .min-max)), s .wall, o .min-max))
+
+  -- another node that is about to send has come to its own slot, and that isn't p
+  pub slow-about : (j : ℕ) (f : NodeState) (i m : ℕ) (a : NodeState) → Slow P c j f i m a → isAbout (a .mode) ≡ true → (own P i ≢ c .p .0) × (m ≡ farOf P c i * P .ticks .0)
+  slow-about j f i m a s e =
+      let u : P .guard .0 + m ≡ farOf P c i * P .ticks .0 + P .guard .0 = about-count P o (c .p .0) (own P i) (pivot-in-frame P o c R) (P .guard .0 + m) a (s .stands) e in
+      (λ q. absurd (let z : P .guard .0 + m ≡ 0 * P .ticks .0 + P .guard .0 = rw (far-none P o c R i q) at u in omega (arith, s .now e .0)), omega arith)
+
+  -- the fast node at the limit is about to send
+  pub fast-at-limit : (j : ℕ) (a : NodeState) → Fast P c j a → isAbout (a .mode) ≡ false → 1 + j < farOf P c (c .fast .0) * P .ticks .0
+  fast-at-limit j a f e = go (ℕ-discrete (1 + j) (farOf P c (c .fast .0) * P .ticks .0))
+    where
+      go : Dec (1 + j ≡ farOf P c (c .fast .0) * P .ticks .0) → 1 + j < farOf P c (c .fast .0) * P .ticks .0
+      go (yes q) =
+          let w = own P (c .fast .0) in
+          let z = at-place P o (c .p .0) w (pivot-in-frame P o c R) (P .guard .0 + 1 + j) a (f .stands) w (P .guard .0) (own-in-frame P o (c .fast .0) (R .fast-below)) (omega (arith, o .guard-tail)) (omega arith) in
+          clash (isSending (a .mode)) (busy P o (c .p .0) w (pivot-in-frame P o c R) (P .guard .0 + 1 + j) a (f .stands) (z .0) (omega (arith, z .1)) (omega (arith, z .1, o .guard-tail)) e) (f .silent)
+      go (no q) = omega (arith, f .limit)
+
+  fast-short : (P .guard .0) + (farOf P c (c .fast .0) * P .ticks .0) < P .frame .0 * P .ticks .0
+  fast-short =
+      let z : (farOf P c (c .fast .0) + 1) * P .ticks .0 ≤ P .frame .0 * P .ticks .0 = mul-le-mul-right (P .ticks .0) (omega (arith, distance-below (P .frame .0) (c .p .0) (own P (c .fast .0)) (omega (arith, o .frame-low)))) in
+      omega (arith, o .guard-tail)
+
+  -- the run
+
+  module _ (r : Run) (m : ℕ → ℕ) (room : P .nodes .0 ≤ length (r .nodes)) (w : Wall P c r m) where
+    pub behind : (i : ℕ) → i < P .nodes .0 → i ≢ c .fast .0 → m i ≤ m (c .fast .0)
+    behind i l n = not-ahead (m (c .fast .0)) (node r (c .fast .0)) i (m i) (node r i) (w .fast .time) (w .slow i l n)
+
+    -- nobody has ticked a whole frame
+    pub short : (i : ℕ) → i < P .nodes .0 → P .guard .0 + m i < P .frame .0 * P .ticks .0
+    short i l = go (ℕ-discrete i (c .fast .0))
+      where
+        go : Dec (i ≡ c .fast .0) → P .guard .0 + m i < P .frame .0 * P .ticks .0
+        go (yes e) = rw e (omega (arith, fast-short, w .fast .limit))
+        go (no n) = omega (arith, fast-short, w .fast .limit, behind i l n)
+
+    pub wall-on-time : OnTime P c (later r)
+    wall-on-time i l = go (ℕ-discrete i (c .fast .0))
+      where
+        go : Dec (i ≡ c .fast .0) → node r i .time .0 ≤ dueTime P c After i
+        go (yes e) = rw (e, due-fast P c) (w .fast .time)
+        go (no n) = rw (due-slow P c i n) (w .slow i l n .time)
+
+    pub wall-delay : (d : ℕ) → DelayMove P c (later r) d → Wall P c (delayed P d r) m
+    wall-delay d h =
+        record {
+          fast = rw at-fast (record {
+            stands = delay-stands P o (c .p .0) (own P (c .fast .0)) (pivot-in-frame P o c R) (P .guard .0 + 1 + m (c .fast .0)) (node r (c .fast .0)) (w .fast .stands) d;
+            time = rw (due-fast P c) at (h .within (c .fast .0) (R .fast-below));
+            now = λ e. clash (isAbout (node r (c .fast .0) .mode)) e (h .quiet (c .fast .0) (R .fast-below));
+            silent = w .fast .silent;
+            limit = w .fast .limit;
+          });
+          slow = rw at-fast (all-delayed P r room (λ i a. i ≢ c .fast .0 → Slow P c (m (c .fast .0)) (nodeDelayed d (node r (c .fast .0))) i (m i) a) d one);
+        }
+      where
+        at-fast : node (delayed P d r) (c .fast .0) ≡ nodeDelayed d (node r (c .fast .0))
+        at-fast = node-delayed P r d (c .fast .0) (R .fast-below) (omega (arith, R .fast-below))
+
+        one : (i : ℕ) → i < P .nodes .0 → i ≢ c .fast .0 → Slow P c (m (c .fast .0)) (nodeDelayed d (node r (c .fast .0))) i (m i) (nodeDelayed d (node r i))
+        one i l n =
+            let s = w .slow i l n in
+            record {
+              stands = delay-stands P o (c .p .0) (own P i) (pivot-in-frame P o c R) (P .guard .0 + m i) (node r i) (s .stands) d;
+              time = rw (due-slow P c i n) at (h .within i l);
+              wall = omega (arith, s .wall);
+              first = λ e. omega (arith, h .some);
+              first-about = λ e. omega (arith, h .some);
+              now = λ e. clash (isAbout (node r i .mode)) e (h .quiet i l);
+              alone = s .alone;
+            }
+
+    pub wall-fast : TickMove P c (later r) (c .fast .0) → Wall P c (ticked P (c .fast .0) r) (bump m (c .fast .0))
+    wall-fast h =
+        let f = w .fast in
+        let quiet = h .quiet (c .fast .0) (R .fast-below) in
+        let limit = fast-at-limit (m (c .fast .0)) (node r (c .fast .0)) f quiet in
+        record {
+          fast = rw (at-fast, bump-same m (c .fast .0)) (record {
+            stands = rw more (tick-stands P o (c .p .0) (own P (c .fast .0)) (pivot-in-frame P o c R) (P .guard .0 + 1 + m (c .fast .0)) (node r (c .fast .0)) quiet (omega (arith, fast-short)) (f .stands));
+            time = omega arith;
+            now = λ e. refl;
+            silent = still-silent P (own P (c .fast .0)) (node r (c .fast .0) .clock .0) (node r (c .fast .0) .slot .0) (node r (c .fast .0) .mode) quiet (f .silent);
+            limit = omega arith;
+          });
+          slow = λ i l n. rw (at-fast, bump-same m (c .fast .0), node-still P r (c .fast .0) i n, bump-other m (c .fast .0) i n) (one i l n);
+        }
+      where
+        at-fast : node (ticked P (c .fast .0) r) (c .fast .0) ≡ nodeTicked P (own P (c .fast .0)) (node r (c .fast .0))
+        at-fast = node-ticked P r (c .fast .0) (omega (arith, R .fast-below))
+
+        more : P .guard .0 + 1 + suc (m (c .fast .0)) ≡ suc (P .guard .0 + 1 + m (c .fast .0))
+        more = omega arith
+
+        due : node r (c .fast .0) .time .0 ≡ P .min .0
+        due = h .due ∙ due-fast P c
+
+        one : (i : ℕ) → i < P .nodes .0 → i ≢ c .fast .0 → Slow P c (suc (m (c .fast .0))) (nodeTicked P (own P (c .fast .0)) (node r (c .fast .0))) i (m i) (node r i)
+        one i l n =
+            let s = w .slow i l n in
+            record {
+              stands = s .stands;
+              time = s .time;
+              wall = omega (arith, s .wall, due);
+              first = λ e. s .first due;
+              first-about = λ e. s .first due;
+              now = s .now;
+              alone = s .alone;
+            }
+
+    pub wall-slow : (i : ℕ) → i ≢ c .fast .0 → TickMove P c (later r) i → Wall P c (ticked P i r) (bump m i)
+    wall-slow i n h =
+        let s = w .slow i (h .below) n in
+        let quiet = h .quiet i (h .below) in
+        let early = fast-goes-first P c r i (R .fast-below) n h in
+        record {
+          fast = rw (at-fast, count-fast) (w .fast);
+          slow = rw (at-fast, count-fast) (all-ticked P r room (λ k a l. k ≢ c .fast .0 → Slow P c (m (c .fast .0)) (node r (c .fast .0)) k l a) m i (h .below)
+              (λ n. record {
+                stands = rw more (tick-stands P o (c .p .0) (own P i) (pivot-in-frame P o c R) (P .guard .0 + m i) (node r i) quiet (omega (arith, fast-short, w .fast .limit, behind i (h .below) n)) (s .stands));
+                time = omega arith;
+                wall = omega (arith, s .wall, h .due, due-slow P c i n);
+                first = λ e. absurd (early e);
+                first-about = λ e. clash (isAbout (node r (c .fast .0) .mode)) e (h .quiet (c .fast .0) (R .fast-below));
+                now = λ e. (omega arith, refl);
+                alone = λ e. s .alone (sending-before P (own P i) (node r i .clock .0) (node r i .slot .0) (node r i .mode) quiet e);
+              }) (λ k l d. w .slow k l));
+        }
+      where
+        at-fast : node (ticked P i r) (c .fast .0) ≡ node r (c .fast .0)
+        at-fast = node-still P r i (c .fast .0) (λ e. n (sym e))
+
+        count-fast : bump m i (c .fast .0) ≡ m (c .fast .0)
+        count-fast = bump-other m i (c .fast .0) (λ e. n (sym e))
+
+        more : P .guard .0 + suc (m i) ≡ suc (P .guard .0 + m i)
+        more = omega arith
