@@ -5,3 +5,5 @@ pub mod Progress
 pub mod Stands
 pub mod Roles
 pub mod Wall
+pub mod Tail
+pub mod Later

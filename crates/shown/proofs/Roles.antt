@@ -7,6 +7,7 @@ use native.Mathlib.Decide.{ℕ-discrete}
 use native.Mathlib.Omega.{arith}
 use borrow.Author.Tests.{ne-eqb}
 use lib.Dec.{eqb}
+use lib.ListN.{length}
 use Rattle.laws.specs.Below.{anyBelow}
 use Rattle.laws.specs.Ring.{distance}
 use Rattle.laws.proofs.Bools.{and-both}
@@ -17,6 +18,8 @@ use Rattle.plan.specs.Sending.{own}
 use Rattle.plan.specs.Tested.{Sound}
 use Rattle.plan.proofs.Sound.{own-in-frame}
 use Rattle.run.specs.declared.Run.{Run}
+use Rattle.run.specs.Moves.{nodeTicked, ticked, sent}
+use Rattle.run.proofs.Nodes.{node-ticked, node-still, node-sender, node-hearing}
 use Rattle.run.specs.State.{node, isSending, elsewhere, sendsApart, outOfStep}
 use Rattle.shown.specs.declared.Parts.{Parts}
 
@@ -81,3 +84,15 @@ unfolding outOfStep sendsApart
 out-is P r i j hi hj s n =
     any-found (P .nodes .0) i (sendsApart P r) hi
     (and-both (isSending (node r i .mode)) (anyBelow (P .nodes .0) (elsewhere r i)) s (any-found (P .nodes .0) j (elsewhere r i) hj (ap not (ne-eqb (node r j .slot .0) (node r i .slot .0) n))))
+
+-- a send while another node is in another slot, and a tick to another slot than a sending node's
+module _ (P : Plan) (r : Run) (room : P .nodes .0 ≤ length (r .nodes)) (i j : ℕ) (hi : i < P .nodes .0) (hj : j < P .nodes .0) (n : j ≢ i) where
+  pub send-apart : node r j .slot .0 ≢ node r i .slot .0 → outOfStep P (sent P i r) ≡ true
+  send-apart d =
+      out-is P (sent P i r) i j hi hj (rw (node-sender P r i hi (omega arith)))
+      (rw (node-sender P r i hi (omega arith), node-hearing P r i j hj (omega arith) n) d)
+
+  pub tick-apart : isSending (node r j .mode) ≡ true → nodeTicked P (own P i) (node r i) .slot .0 ≢ node r j .slot .0 → outOfStep P (ticked P i r) ≡ true
+  tick-apart s d =
+      out-is P (ticked P i r) j i hj hi (rw (node-still P r i j n) s)
+      (rw (node-still P r i j n, node-ticked P r i (omega arith)) d)
