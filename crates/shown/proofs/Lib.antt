@@ -7,3 +7,5 @@ pub mod Roles
 pub mod Wall
 pub mod Tail
 pub mod Later
+pub mod Rounds
+pub mod Dawn

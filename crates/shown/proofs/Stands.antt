@@ -149,6 +149,17 @@ module _ (P : Plan) (o : Sound P) (p w : ℕ) (hp : p < P .frame .0) where
         go Sending true f = absurd f
         go Sending false f = absurd (n (f .0))
 
+    -- and so it does at a clock below g
+    pub waits-early : a .clock .0 < P .guard .0 → a .mode ≡ Waiting
+    waits-early l = go (a .mode) (a .pending) (h .fits)
+      where
+        go : (m : Mode) (b : Bool) → Fits P w (a .clock .0) (a .slot .0) m b → m ≡ Waiting
+        go Waiting b f = refl
+        go AboutToSend true f = absurd f
+        go AboutToSend false f = absurd (omega (arith, f .1))
+        go Sending true f = absurd f
+        go Sending false f = absurd (omega (arith, f .1))
+
     -- in its own slot, from g on and before the tail, it is about to send or sending
     pub busy : a .slot .0 ≡ w → P .guard .0 ≤ a .clock .0 → a .clock .0 + P .tail .0 < P .ticks .0 → isAbout (a .mode) ≡ false → isSending (a .mode) ≡ true
     busy d l m = go (a .mode) (a .pending) (h .fits)
