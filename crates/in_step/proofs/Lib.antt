@@ -1,3 +1,4 @@
 pub mod Numbers
 pub mod Invariant
 pub mod OneNode
+pub mod Moment

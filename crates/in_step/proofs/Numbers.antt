@@ -14,6 +14,10 @@ pub record Live (min max o l u y x : ℕ) : Type 0 where
   pub least : u * min + x ≤ y + l * min
 
 module _ {min max : ℕ} where
+  -- as a phase begins
+  pub live-start : {o l u x : ℕ} → l ≡ o → u ≡ o → x ≡ 0 → Live min max o l u 0 x
+  live-start {o} e q z = rw (e, q, z) (record { above = omega arith; most = omega arith; least = omega arith })
+
   pub live-tick : {o l u y x : ℕ} → min ≤ x → x ≤ max → Live min max o l u y x → Live min max o l (u + 1) y 0
   live-tick h m v = record { above = omega arith; most = omega arith; least = omega arith }
 

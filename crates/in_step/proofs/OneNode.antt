@@ -24,25 +24,24 @@ use Rattle.in_step.proofs.Invariant.{Phase, Knows, Heard, Waits, Abouts
 abbrev pub stateOf : (c s x : ℕ) → Mode → Bool → NodeState
 stateOf c s x m b = record { clock = record { 0 = c }; slot = record { 0 = s }; time = record { 0 = x }; mode = m; pending = b }
 
+-- in slot p a node's ticks since the beginning of p are its clock
+pub ticks-here : (P : Plan) (p c s : ℕ) → p < P .frame .0 → s ≡ p → ticksFrom P p c s ≡ c
+ticks-here P p c s h e = rw (e, distance-self (P .frame .0) p h) (omega arith)
+
+-- the turn of the sender of p is not next
+pub not-next : (P : Plan) (f : Phase) → Holds P f → (w : ℕ) → w ≡ f .p → distance (P .frame .0) (f .p) w ≢ f .D
+not-next P f H w e q =
+    let none : distance (P .frame .0) (f .p) w ≡ 0 = rw e (distance-self (P .frame .0) (f .p) (H .start)) in
+    omega (arith, H .one)
+
 module _ (P : Plan) (S : Sound P) (f : Phase) (H : Holds P f) (y w : ℕ) (hw : w < P .frame .0) where
-  -- from p to p there is no slot to count
-  pub away-none : (s : ℕ) → s ≡ f .p → distance (P .frame .0) (f .p) s ≡ 0
-  away-none s e = rw e (distance-self (P .frame .0) (f .p) (H .start))
-
-  pub ticks-here : (c s : ℕ) → s ≡ f .p → ticksFrom P (f .p) c s ≡ c
-  ticks-here c s e = rw (away-none s e) (omega arith)
-
-  -- the turn of the sender of p is not next
-  not-next : w ≡ f .p → distance (P .frame .0) (f .p) w ≢ f .D
-  not-next e q = omega (arith, away-none w e, H .one)
-
   -- a tick on a pending message: the clock is set to g + 1, one tick after the message
   tick-heard : (c s x : ℕ) → s < P .frame .0 → x ≤ P .max .0 → Heard P f y w c s x → Good P f y w (nodeTicked P w (stateOf c s x Waiting true))
   tick-heard c s x hs hx q =
       let elsewhere : s ≢ w = λ e. q .other (sym e ∙ q .place) in
       let stays = slot-stays P c s (omega (arith, q .early)) in
       let waits = mode-elsewhere P w c s elsewhere in
-      let u = ticks-here (P .guard .0 + 1) s (q .place) in
+      let u = ticks-here P (f .p) (P .guard .0 + 1) s (H .start) (q .place) in
       let k = slots-some (f .D) (P .ticks .0) (H .one) in
       rw (clock-heard P c, stays, waits)
       (record {
@@ -146,7 +145,7 @@ module _ (P : Plan) (S : Sound P) (f : Phase) (H : Holds P f) (y w : ℕ) (hw : 
             clock-low = on;
             slot-low = hs;
             time-low = omega arith;
-            here = record { live = live; before = λ a. absurd (not-next (q .mine) a) };
+            here = record { live = live; before = λ a. absurd (not-next P f H w (q .mine) a) };
           })
       go (no n) =
           rw (clock-on P c on, slot-sending P c s, mode-sends P w c s n)
