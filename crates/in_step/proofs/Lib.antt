@@ -2,3 +2,4 @@ pub mod Numbers
 pub mod Invariant
 pub mod OneNode
 pub mod Moment
+pub mod Phases
