@@ -22,7 +22,7 @@ use Rattle.run.specs.Moves.{nodeSent, nodeHearing}
 use Rattle.run.specs.Reckoning.{ticksFrom}
 use Rattle.in_step.proofs.Numbers.{Live, live-start, not-yet, rule1-brings, rule2-keeps, rule3-keeps, same-slot, slots-some}
 use Rattle.in_step.proofs.Invariant.{Phase, Knows, Heard, Waits, Abouts, Sends, Case, Good, Holds}
-use Rattle.in_step.proofs.OneNode.{stateOf, ticks-here, not-next}
+use Rattle.in_step.proofs.OneNode.{stateOf, knows-of, ticks-here, not-next}
 
 -- Node m's turn, at the distance d: it is the next, or node m is about to send; no more time has gone by than the ticks to it take at most.
 pub record Turn (P : Plan) (f : Phase) (y m d : ℕ) : Type 0 where
@@ -87,19 +87,13 @@ module _ (P : Plan) (S : Sound P) (f : Phase) (H : Holds P f) (y : ℕ) where
       omega (arith, S .guard-tail)
   due-short w c s x Sending e q = absurd (not-next P f H w (q .mine) e)
 
-  -- every node that is not pending counts
-  pub knows-of : (w c s x : ℕ) (m : Mode) → Case P f y w c s x m false → Knows P f y w c s x
-  knows-of w c s x Waiting q = q .live
-  knows-of w c s x AboutToSend q = q .live
-  knows-of w c s x Sending q = q .live
-
   -- so no tick carries a node's count to the end of slot D
   pub all-short : (i m c s x : ℕ) (a : Mode) → i < P .nodes .0 → Turn P f y m (f .D) → Case P f y (own P i) c s x a false → ticksFrom P (f .p) c s + 1 < f .D * P .ticks .0 + P .ticks .0
   all-short i m c s x a h t q = go (ℕ-discrete i m)
     where
       go : Dec (i ≡ m) → ticksFrom P (f .p) c s + 1 < f .D * P .ticks .0 + P .ticks .0
       go (yes e) = due-short (own P i) c s x a (rw e (t .away)) q
-      go (no n) = others-short i m (f .D) c s x h n t (knows-of (own P i) c s x a q)
+      go (no n) = others-short i m (f .D) c s x h n t (knows-of P f y (own P i) c s x a q)
 
   -- while a node is sending, every node is in its slot
   pub all-here : (w c s x w′ c′ s′ x′ : ℕ) (m : Mode) (b : Bool) → x ≤ P .max .0 → Sends P f y w c s x → Good P f y w′ (stateOf c′ s′ x′ m b) → s′ ≡ f .p
@@ -112,7 +106,7 @@ module _ (P : Plan) (S : Sound P) (f : Phase) (H : Holds P f) (y : ℕ) where
   all-here w c s x w′ c′ s′ x′ m false hx v q =
       let here = distance-self (P .frame .0) (f .p) (H .start) in
       let l : Live (P .min .0) (P .max .0) (P .guard .0) (f .lead w) c y x = rw (v .message, ticks-here P (f .p) c s (H .start) (v .place)) at (v .live) in
-      let l′ : Live (P .min .0) (P .max .0) (P .guard .0) (f .lead w′) (ticksFrom P (f .p) c′ s′) y x′ = rw (v .message) at (knows-of w′ c′ s′ x′ m (q .here)) in
+      let l′ : Live (P .min .0) (P .max .0) (P .guard .0) (f .lead w′) (ticksFrom P (f .p) c′ s′) y x′ = rw (v .message) at (knows-of P f y w′ c′ s′ x′ m (q .here)) in
       let high = H .lead-high w′ in
       let u = rule3-keeps (P .min .0) (P .max .0) (P .ticks .0) (P .tail .0) l′ l (H .rule3) (omega (arith, v .message)) (v .high) hx in
       let none = same-slot (distance (P .frame .0) (f .p) s′) 0 (P .ticks .0) c′ (omega arith) (q .clock-low) (omega arith) in

@@ -1,10 +1,12 @@
 -- Facts on numbers that the proof stands on: what rules 1 to 3 say of ticks counted and time gone by. No node, no slot, no plan.
 -- u counts a node's ticks since a slot began, x is the time since its last tick, y the time since the last message;
 -- e is the ticks to the slot of a sender, whose turn comes g ticks later.
-use Prim.Native.Nat.{ℕ, _+_, _*_, _≤_, _<_}
+use Prim.Native.Nat.{ℕ, _+_, _*_, _-_, _≤_, _<_}
 use mathlib.Core.Path.{_≡_}
+use mathlib.Core.Logic.{_≢_}
 use native.Mathlib.Nat.{mul-le-mul-right, lt-of-mul-lt-mul-right}
 use native.Mathlib.Omega.{arith}
+use Rattle.laws.proofs.Products.{sub-mul}
 use Rattle.rules.proofs.Distances.{Rule1, Rule2, Rule3}
 
 -- A count u bounds y from both sides: from o on for the most, from the lead l on for the least.
@@ -27,6 +29,16 @@ module _ {min max : ℕ} where
   -- a message at o, heard, is one tick gone at the next tick
   pub live-heard : {o l u y x : ℕ} → l ≡ o + 1 → u ≡ o + 1 → y ≤ x → x ≤ max → Live min max o l u y 0
   live-heard {o} {l} {u} {y} {x} e q h m = rw (e, q) (record { above = omega arith; most = omega arith; least = omega arith })
+
+  -- u − o ticks, reckoned, bound the time from both sides
+  pub live-most : {o l u y x : ℕ} (n : ℕ) → n ≡ u - o → o ≤ u → Live min max o l u y x → y ≤ n * max + x
+  live-most {o} {u = u} n e h v = rw e (omega (arith, sub-mul u o max h, v .most))
+
+  pub live-least : {o l u y x : ℕ} (n : ℕ) → n ≡ u - o → l ≤ o + 1 → Live min max o l u y x → n ≢ 0 → (n - 1) * min + x ≤ y
+  live-least {o} {l} {u} n e h v z =
+      let p : l * min ≤ (o + 1) * min = mul-le-mul-right min h in
+      let q : n - 1 ≡ u - (o + 1) = omega arith in
+      rw q (omega (arith, sub-mul u (o + 1) min (omega arith), v .least))
 
 -- the rules, over a count u with x ≤ max
 

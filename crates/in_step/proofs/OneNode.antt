@@ -24,6 +24,12 @@ use Rattle.in_step.proofs.Invariant.{Phase, Knows, Heard, Waits, Abouts
 abbrev pub stateOf : (c s x : ℕ) → Mode → Bool → NodeState
 stateOf c s x m b = record { clock = record { 0 = c }; slot = record { 0 = s }; time = record { 0 = x }; mode = m; pending = b }
 
+-- every node that is not pending counts
+pub knows-of : (P : Plan) (f : Phase) (y w c s x : ℕ) (m : Mode) → Case P f y w c s x m false → Knows P f y w c s x
+knows-of P f y w c s x Waiting q = q .live
+knows-of P f y w c s x AboutToSend q = q .live
+knows-of P f y w c s x Sending q = q .live
+
 -- in slot p a node's ticks since the beginning of p are its clock
 pub ticks-here : (P : Plan) (p c s : ℕ) → p < P .frame .0 → s ≡ p → ticksFrom P p c s ≡ c
 ticks-here P p c s h e = rw (e, distance-self (P .frame .0) p h) (omega arith)
