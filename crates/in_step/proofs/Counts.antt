@@ -1,8 +1,8 @@
 -- The reckoning of a good node: its ticks since slot p began, less o, or 0 where a message is pending; never below 0, and right on both sides.
 use Prim.Native.Nat.{ℕ, _+_, _*_, _-_, _≤_, _<_}
-use mathlib.Core.Path.{_≡_, refl, sym, ap, _∙_}
+use mathlib.Core.Path.{_≡_, refl}
 use mathlib.Core.Logic.{_≢_}
-use mathlib.Core.Bool.{Bool, true, false, not, _&&_}
+use mathlib.Core.Bool.{Bool, true, false, _&&_}
 use native.Mathlib.Decide.{ℕ-discrete}
 use native.Mathlib.Omega.{arith}
 use borrow.Author.Tests.{le-ltb, ne-eqb, eq-eqb}
@@ -18,8 +18,8 @@ use Rattle.run.specs.declared.Last.{Last}
 use Rattle.run.specs.declared.Last.the-variants.{At, Nothing}
 use Rattle.run.specs.declared.NodeState.{NodeState}
 use Rattle.run.specs.Reckoning.{ticksFrom, reckoning, belowZero}
-use Rattle.in_step.proofs.Numbers.{Live, live-most, live-least, same-slot}
-use Rattle.in_step.proofs.Invariant.{Phase, phaseOf, Knows, Case, Good, Sent, Holds}
+use Rattle.in_step.proofs.Numbers.{live-most, live-least, same-slot}
+use Rattle.in_step.proofs.Invariant.{phaseOf, Case, Good, Sent, Holds}
 use Rattle.in_step.proofs.OneNode.{stateOf, knows-of, ticks-here}
 use Rattle.in_step.proofs.Phases.{due-of, due-one}
 

@@ -1,8 +1,8 @@
 -- Every legal step keeps the invariant: the list of nodes, and induction on the steps.
-use Prim.Native.Nat.{ℕ, _+_, _*_, _-_, _≤_, _<_}
-use mathlib.Core.Path.{_≡_, refl, sym, ap, _∙_}
+use Prim.Native.Nat.{ℕ, _+_, _*_, _-_, _<_}
+use mathlib.Core.Path.{_≡_, refl, sym, _∙_}
 use mathlib.Core.Logic.{_≢_}
-use mathlib.Core.Bool.{Bool, true, false}
+use mathlib.Core.Bool.{false}
 use mathlib.Core.List.{List, [], _∷_}
 use lib.ListN.{length}
 use native.Mathlib.Decide.{ℕ-discrete}
@@ -15,18 +15,17 @@ use Rattle.plan.specs.Tested.{planNumber, Sound}
 use Rattle.plan.proofs.Sound.{own-in-frame}
 use Rattle.rules.proofs.Distances.{RulesHold}
 use Rattle.run.specs.declared.Last.the-variants.{At, Nothing}
-use Rattle.run.specs.declared.Mode.{Mode}
 use Rattle.run.specs.declared.Run.{Run}
 use Rattle.run.specs.declared.Step.{Step}
 use Rattle.run.specs.declared.Step.the-variants.{Delay, TickOf, SendOf}
 use Rattle.run.specs.State.{node, freshRun}
-use Rattle.run.specs.Moves.{delayed, ticked, sent, moved}
+use Rattle.run.specs.Moves.{delayed, ticked, sent}
 use Rattle.run.specs.Steps.{stepOf, Legal, runAfter}
 use Rattle.run.specs.Reckoning.{ticksFrom, timeSince}
 use Rattle.run.proofs.Nodes.{room-fresh, node-fresh, room-moved, node-delayed, node-ticked, node-still, node-sender, node-hearing}
 use Rattle.run.proofs.Legal.{DelayLegal, TickLegal, SendLegal, legal-step, done-step}
 use Rattle.in_step.proofs.Numbers.{live-start, slots-some}
-use Rattle.in_step.proofs.Invariant.{Phase, phaseOf, Case, Good, Inv, Holds, Due}
+use Rattle.in_step.proofs.Invariant.{Phase, phaseOf, Good, Inv, Holds}
 use Rattle.in_step.proofs.OneNode.{tick-good, delay-good}
 use Rattle.in_step.proofs.Moment.{Turn, due-turn, all-short, gathered, AboutHere, about-here, sender-good, hearer-good}
 use Rattle.in_step.proofs.Phases.{lead-own, lead-other, end-to-start, due-of}

@@ -6,3 +6,4 @@ pub mod Phases
 pub mod Kept
 pub mod Counts
 pub mod Stays
+pub mod Sample

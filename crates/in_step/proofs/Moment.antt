@@ -4,7 +4,6 @@ use Prim.Native.Nat.{ℕ, _+_, _*_, _≤_, _<_}
 use mathlib.Core.Path.{_≡_, refl, sym, ap, _∙_}
 use mathlib.Core.Logic.{_≢_}
 use mathlib.Core.Bool.{Bool, true, false}
-use native.Mathlib.Nat.{mul-le-mul-right}
 use native.Mathlib.Decide.{ℕ-discrete}
 use native.Mathlib.Omega.{arith}
 use borrow.Author.Tests.{lt-ltb}
@@ -21,7 +20,7 @@ use Rattle.run.specs.State.{isAbout}
 use Rattle.run.specs.Moves.{nodeSent, nodeHearing}
 use Rattle.run.specs.Reckoning.{ticksFrom}
 use Rattle.in_step.proofs.Numbers.{Live, live-start, not-yet, rule1-brings, rule2-keeps, rule3-keeps, same-slot, slots-some}
-use Rattle.in_step.proofs.Invariant.{Phase, Knows, Heard, Waits, Abouts, Sends, Case, Good, Holds}
+use Rattle.in_step.proofs.Invariant.{Phase, Knows, Abouts, Sends, Case, Good, Holds}
 use Rattle.in_step.proofs.OneNode.{stateOf, knows-of, ticks-here, not-next}
 
 -- Node m's turn, at the distance d: it is the next, or node m is about to send; no more time has gone by than the ticks to it take at most.

@@ -1,5 +1,5 @@
 -- A tick and a delay of one node keep what the invariant says of it.
-use Prim.Native.Nat.{ℕ, _+_, _*_, _-_, _%_, _≤_, _<_}
+use Prim.Native.Nat.{ℕ, _+_, _*_, _%_, _≤_, _<_}
 use mathlib.Core.Path.{_≡_, refl, sym, ap, _∙_}
 use mathlib.Core.Logic.{_≢_}
 use mathlib.Core.Bool.{Bool, true, false}
@@ -17,7 +17,7 @@ use Rattle.run.specs.State.{isAbout}
 use Rattle.run.specs.Moves.{nodeTicked, nodeDelayed}
 use Rattle.run.specs.Reckoning.{ticksFrom}
 use Rattle.run.proofs.Outcomes.{clock-heard, clock-on, clock-round, mode-turns, mode-elsewhere, mode-waits, mode-ends, mode-sends, slot-moves, slot-stays, slot-sending}
-use Rattle.in_step.proofs.Numbers.{Live, live-tick, live-heard, live-delay, same-slot, slot-within, slots-some}
+use Rattle.in_step.proofs.Numbers.{live-tick, live-heard, live-delay, same-slot, slot-within, slots-some}
 use Rattle.in_step.proofs.Invariant.{Phase, Knows, Heard, Waits, Abouts, Sends, Case, Good, Holds}
 
 -- The state of a node, from its parts.

@@ -1,26 +1,25 @@
 -- What an accepted plan gives each phase: who is due, and the rules at every distance up to it.
 use Prim.Native.Nat.{ℕ, _+_, _-_, _≤_, _<_}
-use mathlib.Core.Path.{_≡_, refl, sym, _∙_}
+use mathlib.Core.Path.{_≡_}
 use mathlib.Core.Logic.{_≢_}
-use mathlib.Core.Bool.{true, false, cond}
 use native.Mathlib.Nat.{le-trans}
 use native.Mathlib.Omega.{arith}
 use borrow.Author.Tests.{eq-eqb, ne-eqb}
 use lib.Dec.{eqb}
 use Rattle.laws.specs.Ring.{distance}
 use Rattle.laws.proofs.Bools.{cond-by}
-use Rattle.laws.proofs.Ring.{Reaches, round, distance-is}
+use Rattle.laws.proofs.Ring.{round, distance-is}
 use Rattle.plan.specs.declared.Plan.{Plan}
 use Rattle.plan.specs.declared.Slot.{Slot}
 use Rattle.plan.specs.Sending.{own}
 use Rattle.plan.specs.Tested.{Sound}
-use Rattle.plan.proofs.Sound.{Sender, sends-by, own-in-frame}
+use Rattle.plan.proofs.Sound.{sends-by, own-in-frame}
 use Rattle.gap.specs.Gap.{slotsToNext}
 use Rattle.gap.proofs.Forth.{next-at, next-within}
 use Rattle.rules.proofs.Distances.{RulesHold}
 use Rattle.run.specs.declared.Last.{Last}
 use Rattle.run.specs.declared.Last.the-variants.{At, Nothing}
-use Rattle.in_step.proofs.Invariant.{Phase, phaseOf, Sent, Holds, Due}
+use Rattle.in_step.proofs.Invariant.{phaseOf, Sent, Due}
 
 -- the lead after a message in slot q
 

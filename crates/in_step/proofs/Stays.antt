@@ -1,20 +1,15 @@
 -- Demand 3, first half: a plan that is accepted stays in step.
-use Prim.Native.Nat.{ℕ, _+_, _*_, _-_, _≤_, _<_}
+use Prim.Native.Nat.{ℕ, _<_}
 use mathlib.Core.Path.{_≡_, refl, sym, ap, _∙_}
-use mathlib.Core.Logic.{_≢_}
 use mathlib.Core.Bool.{Bool, true, false, not, _&&_}
 use mathlib.Core.List.{[], _∷_}
-use native.Mathlib.Decide.{ℕ-discrete}
-use native.Mathlib.Omega.{arith}
-use borrow.Author.Tests.{lt-ltb, le-ltb, le-leb, lt-leb, eq-eqb, ne-eqb}
-use lib.Dec.{eqb, leb, ltb}
+use borrow.Author.Tests.{lt-ltb, le-leb, lt-leb, eq-eqb}
+use lib.Dec.{leb}
 use Rattle.laws.specs.Row.{given}
-use Rattle.laws.specs.Ring.{distance}
 use Rattle.laws.specs.Below.{anyBelow, allBelow}
 use Rattle.laws.proofs.Bools.{clash, and-both}
 use Rattle.laws.proofs.Belows.{any-never, all-ever}
 use Rattle.laws.proofs.Rows.{off-all}
-use Rattle.laws.proofs.Products.{sub-mul}
 use Rattle.plan.specs.declared.Plan.{Plan}
 use Rattle.plan.specs.Sending.{own}
 use Rattle.plan.specs.Refusals.{run-outside, node-unknown, reckoning-below-0}
@@ -25,16 +20,13 @@ use Rattle.run.specs.declared.Mode.{Mode}
 use Rattle.run.specs.declared.Mode.the-variants.{Waiting, AboutToSend, Sending}
 use Rattle.run.specs.declared.Last.{Last}
 use Rattle.run.specs.declared.Last.the-variants.{At, Nothing}
-use Rattle.run.specs.declared.NodeState.{NodeState}
 use Rattle.run.specs.declared.Run.{Run}
 use Rattle.run.specs.declared.Reckoned.the-variants.{Ticks}
 use Rattle.run.specs.State.{node, freshRun, isSending, inRange, nodeInRange, lastInRange, elsewhere, sendsApart, outOfStep}
 use Rattle.run.specs.Steps.{runAfter}
 use Rattle.run.specs.Reckoning.{timeSince, reckoning, belowZero, reckoningNumber, reckonedTested, reckonedOf}
-use Rattle.in_step.specs.InStep.{Reckons, InStep, StaysInStep}
-use Rattle.in_step.proofs.Numbers.{Live, same-slot}
-use Rattle.in_step.proofs.Invariant.{Phase, phaseOf, Knows, Heard, Sends, Case, Good, Sent, Inv, Holds}
-use Rattle.in_step.proofs.OneNode.{stateOf, ticks-here}
+use Rattle.in_step.specs.InStep.{Reckons, StaysInStep}
+use Rattle.in_step.proofs.Invariant.{Phase, phaseOf, Sends, Case, Sent, Inv}
 use Rattle.in_step.proofs.Moment.{all-short, all-here}
 use Rattle.in_step.proofs.Phases.{due-of}
 use Rattle.in_step.proofs.Kept.{next-turn, inv-fresh, inv-steps}

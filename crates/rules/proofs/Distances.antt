@@ -1,19 +1,16 @@
 -- The rules without subtraction, and at every distance: a rule that holds at M holds at every smaller distance d and for every
 -- offset o from g on, since (M − d)·k0 + (o − g) ticks take no longer at min than at max.
 use Prim.Native.Nat.{ℕ, zero, suc, _+_, _*_, _-_, _≤_, _<_}
-use mathlib.Core.Path.{_≡_, refl, sym}
+use mathlib.Core.Path.{_≡_, refl}
 use mathlib.Core.Bool.{Bool, true, false, cond}
 use native.Mathlib.Nat.{le-trans, le-add-left, mul-le-mul-left, mul-le-mul-right}
-use native.Mathlib.Decide.{decLe}
 use native.Mathlib.Omega.{arith}
 use borrow.Author.Tests.{ltb-true, le-ltb}
 use Rattle.laws.proofs.Products.{sub-mul}
 use Rattle.plan.specs.declared.Plan.{Plan}
 use Rattle.plan.specs.Tested.{Sound}
 use Rattle.gap.specs.Gap.{gapOf}
-use Rattle.rules.specs.declared.Rule.{Rule}
 use Rattle.rules.specs.declared.Rule.the-variants.{One, Two, Three}
-use Rattle.rules.specs.declared.Outcome.{Outcome}
 use Rattle.rules.specs.declared.Outcome.the-variants.{Accepted, Fails}
 use Rattle.rules.specs.Rules.{sidesAt, holds, outcomeBy, verdictAt, verdictOf}
 
