@@ -1,11 +1,7 @@
 -- The predecessor of a sending slot: the search backwards stops at a sending slot, and passes none.
 -- The idea: while another sender lies e or more slots back, and fewer than are left, the search cannot run out.
 use Prim.Native.Nat.{ℕ, zero, suc, _+_, _-_, _%_, _≤_, _<_}
-<<<<<<< HEAD
 use mathlib.Core.Path.{_≡_, refl}
-=======
-use mathlib.Core.Path.{_≡_, refl, sym, ap, _∙_}
->>>>>>> wa
 use mathlib.Core.Logic.{_≢_}
 use mathlib.Core.Bool.{Bool, true, false}
 use native.Mathlib.Nat.{mod-eq-of-lt, mod-lt}
@@ -18,15 +14,9 @@ use Rattle.plan.specs.declared.Plan.{Plan}
 use Rattle.plan.specs.Sending.{own, sends}
 use Rattle.plan.specs.Tested.{Sound}
 use Rattle.plan.proofs.Sound.{own-sends, own-in-frame}
-<<<<<<< HEAD
 use Rattle.gap.specs.Gap.{slotBefore, nearest, predecessor, gapAt}
 use Rattle.gap.proofs.Facts.{Before}
 use Rattle.gap.proofs.Others.{other}
-=======
-use Rattle.gap.specs.Gap.{slotBefore, nearest, predecessor, gapAt, gapFor}
-use Rattle.gap.proofs.Facts.{NextAt, Before}
-use Rattle.gap.proofs.Others.{Other, other}
->>>>>>> wa
 
 -- slots from which s is reached by the same number of places are the same slot
 reaches-same : (C x y d s : ℕ) → x < C → y < C → s < C → Reaches C x d s → Reaches C y d s → x ≡ y
