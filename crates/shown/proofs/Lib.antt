@@ -9,3 +9,4 @@ pub mod Tail
 pub mod Later
 pub mod Rounds
 pub mod Dawn
+pub mod Casting
