@@ -10,3 +10,4 @@ pub mod Later
 pub mod Rounds
 pub mod Dawn
 pub mod Casting
+pub mod Why

@@ -206,8 +206,8 @@ module _ (P : Plan) (c : Parts) (o : Sound P) (plain : planNumber P ≡ 0) (by-p
   pub kept-after : (q : Place) (s : Step) → Kept P (q .run) → StepLegal P (q .run) s → Kept P (moved P (q .run) s)
   kept-after q s k l = record { room = omega (arith, room-moved P (q .run) s, k .room); range = step-keeps-range P o (q .run) s (k .room) l }
 
-  module _ (I : Place → (ℕ → ℕ) → Type 0) (B : ℕ) (short : (q : Place) (n : ℕ → ℕ) → I q n → (k : ℕ) → k < P .nodes .0 → n k < B)
-      (timely : (q : Place) (n : ℕ → ℕ) → I q n → OnTime P c q)
+  module _ (I : Place → (ℕ → ℕ) → Type 0) (B : ℕ) (short : (q : Place) (n : ℕ → ℕ) → Kept P (q .run) → I q n → (k : ℕ) → k < P .nodes .0 → n k < B)
+      (timely : (q : Place) (n : ℕ → ℕ) → Kept P (q .run) → I q n → OnTime P c q)
       (keep : (q : Place) (n : ℕ → ℕ) (s : Step) → Kept P (q .run) → I q n → Move P c q s → Unless P (placeAfter P c q s) (I (placeAfter P c q s) (counted s n))) where
     abbrev Rest : ℕ → Type 0
     Rest w = (q : Place) (n : ℕ → ℕ) → Kept P (q .run) → weights P B (q .run) n < w → Unless P q (I q n) → Reaches P q (left P B n)
@@ -216,9 +216,9 @@ module _ (P : Plan) (c : Parts) (o : Sound P) (plain : planNumber P ≡ 0) (by-p
     ticks-on : (w : ℕ) → Rest w → (q : Place) (n : ℕ → ℕ) (i : Node) → Kept P (q .run) → weights P B (q .run) n < suc w → outOfStep P (q .run) ≡ false → I q n → nextStep P c q ≡ TickOf i → TickMove P c q (i .0) → Reaches P q (left P B n)
     ticks-on w rest q n i k h t v e m =
         let l = move-legal P c o q (TickOf i) (k .range) t m in
-        let less = short q n v (i .0) (m .below) in
+        let less = short q n k v (i .0) (m .below) in
         rw (left-falls P B n (i .0) (m .below) less)
-        (take q (TickOf i) (left P B (bump n (i .0))) (timely q n v) e l
+        (take q (TickOf i) (left P B (bump n (i .0))) (timely q n k v) e l
         (rest (placeAfter P c q (TickOf i)) (bump n (i .0)) (kept-after q (TickOf i) k l) (omega (arith, tick-falls P B (q .run) n (k .room) (i .0) (m .below) less)) (keep q n (TickOf i) k v m)))
 
     -- any step
@@ -244,21 +244,21 @@ module _ (P : Plan) (c : Parts) (o : Sound P) (plain : planNumber P ≡ 0) (by-p
 
             then : (b : Bool) → outOfStep P (q′ .run) ≡ b → Reaches P q′ (left P B n)
             then true e = stop q′ (left P B n) k′ e
-            then false e = move (nextStep P c q′) e refl (next-move P c o q′ (timely q′ n v′))
+            then false e = move (nextStep P c q′) e refl (next-move P c o q′ (timely q′ n k′ v′))
 
         move : (s : Step) → outOfStep P (q .run) ≡ false → nextStep P c q ≡ s → Move P c q s → Reaches P q (left P B n)
         move (Delay d) t e m =
             let l = move-legal P c o q (Delay d) (k .range) t m in
-            take q (Delay d) (left P B n) (timely q n v) e l (waited d m (kept-after q (Delay d) k l) (keep q n (Delay d) k v m))
+            take q (Delay d) (left P B n) (timely q n k v) e l (waited d m (kept-after q (Delay d) k l) (keep q n (Delay d) k v m))
         move (TickOf i) t e m = ticks-on w rest q n i k h t v e m
         move (SendOf i) t e m =
             let l = move-legal P c o q (SendOf i) (k .range) t m in
-            take q (SendOf i) (left P B n) (timely q n v) e l
+            take q (SendOf i) (left P B n) (timely q n k v) e l
             (rest (placeAfter P c q (SendOf i)) n (kept-after q (SendOf i) k l) (omega (arith, send-falls P B (q .run) n (k .room) (i .0) (m .below) (m .about))) (keep q n (SendOf i) k v m))
 
         go : (b : Bool) → outOfStep P (q .run) ≡ b → Reaches P q (left P B n)
         go true e = stop q (left P B n) k e
-        go false e = move (nextStep P c q) e refl (next-move P c o q (timely q n v))
+        go false e = move (nextStep P c q) e refl (next-move P c o q (timely q n k v))
 
     ends : (w : ℕ) → Rest w
     ends zero q n k h v = absurd (not-suc-le-zero h)
