@@ -2,36 +2,33 @@
 use Prim.Native.Nat.{ℕ, _+_, _*_, _-_, _≤_, _<_}
 use mathlib.Core.Path.{_≡_, refl, sym, ap, _∙_}
 use mathlib.Core.Logic.{_≢_}
-use mathlib.Core.Bool.{Bool, true, false, cond, not, _&&_}
+use mathlib.Core.Bool.{Bool, true, false, cond, _&&_}
 use native.Mathlib.Nat.{mul-le-mul-right}
-use native.Mathlib.Decide.{ℕ-discrete}
 use native.Mathlib.Omega.{arith}
 use borrow.Author.Tests.{eqb-true, eqb-false, eq-eqb, ne-eqb, ltb-false}
-use lib.Dec.{eqb, ltb}
-use Rattle.laws.specs.Below.{firstBelow, leastBelow}
+use lib.Dec.{eqb}
+use Rattle.laws.specs.Below.{firstBelow}
 use Rattle.laws.specs.Ring.{distance}
-use Rattle.laws.proofs.Bools.{clash, and-true-left, and-true-right, true-not-false}
-use Rattle.laws.proofs.Belows.{Reached, first-passes, largest-reached, least-under, least-reached}
+use Rattle.laws.proofs.Bools.{and-true-left, and-true-right, true-not-false}
+use Rattle.laws.proofs.Belows.{first-passes, largest-reached, least-under, least-reached}
 use Rattle.laws.proofs.Products.{sub-mul}
-use Rattle.laws.proofs.Ring.{distance-same, distance-self}
 use Rattle.plan.specs.declared.Plan.{Plan}
 use Rattle.plan.specs.Sending.{own, sends}
 use Rattle.plan.specs.Tested.{Sound}
-use Rattle.plan.proofs.Sound.{Sender, sends-by}
-use Rattle.gap.specs.Gap.{predecessor, gapAt, gapFor, gapOf}
-use Rattle.gap.proofs.Facts.{NextAt, Before}
+use Rattle.plan.proofs.Sound.{sends-by}
+use Rattle.gap.specs.Gap.{predecessor, gapFor, gapOf}
+use Rattle.gap.proofs.Facts.{Before}
 use Rattle.gap.proofs.Others.{other, third}
 use Rattle.gap.proofs.Back.{before-own}
 use Rattle.gap.proofs.Bounds.{gap-low}
 use Rattle.rules.specs.declared.Rule.{Rule}
 use Rattle.rules.specs.declared.Rule.the-variants.{One, Two, Three}
 use Rattle.rules.specs.declared.Sides.{Sides}
-use Rattle.rules.specs.declared.Outcome.{Outcome}
 use Rattle.rules.specs.declared.Outcome.the-variants.{Accepted, Fails}
 use Rattle.rules.specs.Rules.{sidesAt, holds, outcomeBy, verdictAt, verdictOf}
 use Rattle.shown.specs.declared.Parts.{Parts}
 use Rattle.shown.specs.Parts.{predecessorAt, widestFrom, widestNode, senderIn, silentIn, partsWith, partsFor}
-use Rattle.shown.proofs.Roles.{Roles, farOf, FailsOne, FailsTwo, FailsThree, Failure, one, two, three, far-away}
+use Rattle.shown.proofs.Roles.{Roles, farOf, Failure, one, two, three, far-away}
 
 -- the rule that the verdict names does not hold
 
@@ -108,7 +105,7 @@ module _ (P : Plan) (o : Sound P) where
 
     widest-near : (j : ℕ) → j < P .nodes .0 → own P j ≢ c .p .0 → farOf P c (widestNode P) ≤ farOf P c j
     widest-near j l n =
-        let z : 1 ≤ distance (P .frame .0) (widestFrom P) (own P j) = rw e at (far-away P o c R j l n) in
+        let z : 1 ≤ distance (P .frame .0) (widestFrom P) (own P j) = rw e at (far-away o R j l n) in
         rw (e, widest-before .away) (widest-before .next .near j l z)
 
   silent-away : (s i : ℕ) → silentIn P s i ≡ true → own P i ≢ s

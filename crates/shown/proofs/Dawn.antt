@@ -1,40 +1,36 @@
 -- The pivot: the round in which the sender of p sends. Until its message the fast node waits with its tick; that tick ends the pivot.
-use Prim.Native.Nat.{ℕ, zero, suc, _+_, _*_, _-_, _≤_, _<_}
+use Prim.Native.Nat.{ℕ, _+_, _*_, _-_, _≤_, _<_}
 use mathlib.Core.Path.{_≡_, refl, sym, ap, _∙_}
 use mathlib.Core.Logic.{_≢_}
-use mathlib.Core.Bool.{Bool, true, false, cond, not, _&&_, _||_}
+use mathlib.Core.Bool.{Bool, true, false, not, _&&_}
 use native.Mathlib.Nat.{mul-le-mul-right}
 use native.Mathlib.Decide.{ℕ-discrete}
 use native.Mathlib.Omega.{arith}
 use borrow.Author.Tests.{eqb-true, eq-eqb, ne-eqb, lt-ltb}
 use lib.Dec.{eqb, ltb}
 use lib.ListN.{length}
-use Rattle.laws.specs.Ring.{distance}
 use Rattle.laws.proofs.Bools.{clash, and-true-left, and-true-right, or-true-right, true-not-false}
 use Rattle.laws.proofs.Ring.{distance-self}
 use Rattle.plan.specs.declared.Plan.{Plan}
 use Rattle.plan.specs.Sending.{own}
 use Rattle.plan.specs.Tested.{Sound}
-use Rattle.plan.proofs.Sound.{own-in-frame}
-use Rattle.run.specs.declared.Mode.{Mode}
-use Rattle.run.specs.declared.Mode.the-variants.{Waiting, AboutToSend, Sending}
+use Rattle.run.specs.declared.Mode.the-variants.{Waiting}
 use Rattle.run.specs.declared.NodeState.{NodeState}
 use Rattle.run.specs.declared.Run.{Run}
 use Rattle.run.specs.State.{node, isAbout, isSending, isWaiting}
-use Rattle.run.specs.Moves.{nodeTicked, nodeDelayed, nodeSent, nodeHearing, delayed, ticked, sent}
+use Rattle.run.specs.Moves.{nodeTicked, nodeSent, nodeHearing, delayed, ticked, sent}
 use Rattle.run.proofs.Outcomes.{clock-heard, mode-elsewhere, slot-stays}
 use Rattle.run.proofs.Nodes.{node-delayed, node-ticked, node-still, node-sender, node-hearing}
-use Rattle.shown.specs.declared.Mark.{Mark}
-use Rattle.shown.specs.declared.Mark.the-variants.{Before, In, After}
+use Rattle.shown.specs.declared.Mark.the-variants.{In}
 use Rattle.shown.specs.declared.Place.{Place}
 use Rattle.shown.specs.declared.Parts.{Parts}
 use Rattle.shown.specs.Shown.{dueTime, goesFirst, goesSecond, pivotNext}
-use Rattle.shown.proofs.Play.{OnTime, Quiet, SendMove, TickMove, DelayMove, Turn, goes-first, goes-second, goes-third}
+use Rattle.shown.proofs.Play.{OnTime, SendMove, TickMove, DelayMove, Turn, goes-first, goes-second, goes-third}
 use Rattle.shown.proofs.Progress.{bump, bump-same, bump-other}
-use Rattle.shown.proofs.Stands.{Stands, same-digits, Idle, away, tick-stands, at-place, about-at, about-count, sending-at, waits-away, waits-early, busy, send-stands, hear-stands}
+use Rattle.shown.proofs.Stands.{Stands, away, tick-stands, at-place, about-at, sending-at, waits-away, waits-early, busy, send-stands, hear-stands}
 use Rattle.shown.proofs.Roles.{Roles, farOf, pivot-in-frame, far-away, sender-not-fast}
-use Rattle.shown.proofs.Wall.{Fast, Slow, Wall, still-silent}
-use Rattle.shown.proofs.Rounds.{earlier, pivotCount, Turned, done, due, InRound, Round, Early, at-count, from-0, round-time, due-lacks, early-done, round-tick, due-before, pivot-short, all-done, round-on}
+use Rattle.shown.proofs.Wall.{Slow, Wall, still-silent}
+use Rattle.shown.proofs.Rounds.{earlier, pivotCount, Turned, done, due, Round, Early, at-count, from-0, round-time, due-lacks, early-done, round-tick, pivot-short, all-done, round-on}
 
 -- the place in the pivot with the run r
 abbrev pub within : Run → Place
@@ -71,7 +67,7 @@ pub due-in : (P : Plan) (c : Parts) (i : ℕ) → dueTime P c In i ≡ P .min .0
 unfolding dueTime
 due-in P c i = refl
 
-module _ (P : Plan) (o : Sound P) (c : Parts) (R : Roles P c) where
+module _ {P : Plan} {c : Parts} (o : Sound P) (R : Roles P c) where
   abbrev f : ℕ
   f = c .fast .0
 
@@ -80,16 +76,16 @@ module _ (P : Plan) (o : Sound P) (c : Parts) (R : Roles P c) where
 
   -- the delay before the pivot
 
-  module _ (r : Run) (n : ℕ → ℕ) (room : P .nodes .0 ≤ length (r .nodes)) (E : Early P c r n) (d : ℕ) (h : DelayMove P c (earlier r) d) where
+  module _ {r : Run} {n : ℕ → ℕ} (room : P .nodes .0 ≤ length (r .nodes)) (E : Early P c r n) (d : ℕ) (h : DelayMove P c (earlier r) d) where
     sender-count : n a ≡ E .number
-    sender-count = all-done P o c R r n room E d h a (R .sender-below) .0
+    sender-count = all-done o R room E d h a (R .sender-below) .0
 
     -- where the next round is the pivot, the sender of p waits in p with clock g − 1
     sender-at : E .number + 1 ≡ pivotCount P c → (node r a .slot .0 ≡ c .p .0) × (node r a .clock .0 ≡ P .guard .0 - 1)
-    sender-at e = at-count P o (own P a) (n a) (node r a) (E .round a (R .sender-below) .stands) (c .p .0) (P .guard .0 - 1) (pivot-in-frame P o c R) (omega (arith, o .guard-tail)) (omega (arith, sender-count, o .guard-low))
+    sender-at e = at-count o (E .round a (R .sender-below) .stands) (c .p .0) (P .guard .0 - 1) (pivot-in-frame o R) (omega (arith, o .guard-tail)) (omega (arith, sender-count, o .guard-low))
 
     sender-waits : E .number + 1 ≡ pivotCount P c → node r a .mode ≡ Waiting
-    sender-waits e = waits-early P o 0 (own P a) (omega (arith, o .frame-low)) (n a) (node r a) (E .round a (R .sender-below) .stands) (omega (arith, sender-at e .1, o .guard-low))
+    sender-waits e = waits-early o (E .round a (R .sender-below) .stands) (omega (arith, sender-at e .1, o .guard-low))
 
     pub pivot-is : E .number + 1 ≡ pivotCount P c → pivotNext P c r ≡ true
     pivot-is e =
@@ -112,7 +108,7 @@ module _ (P : Plan) (o : Sound P) (c : Parts) (R : Roles P c) where
             let both = and-true-left (waiting && here) now t in
             let s = eqb-true (node r a .slot .0) (c .p .0) (and-true-right waiting here both) in
             let k = eqb-true (node r a .clock .0 + 1) (P .guard .0) (and-true-right (waiting && here) now t) in
-            let z = rw (s, from-0 (P .frame .0) (c .p .0) (pivot-in-frame P o c R)) at (E .round a (R .sender-below) .stands .counts) in
+            let z = rw (s, from-0 (P .frame .0) (c .p .0) (pivot-in-frame o R)) at (E .round a (R .sender-below) .stands .counts) in
             absurd (e (omega (arith, sender-count)))
         go false t = t
 
@@ -125,15 +121,15 @@ module _ (P : Plan) (o : Sound P) (c : Parts) (R : Roles P c) where
         record {
           number = E .number + 1;
           before = omega (arith, E .before);
-          round = round-on P o c R r n room E d h;
+          round = round-on o R room E d h;
           together = λ i l q. absurd (still-quiet i l q);
         }
 
     pub eve-begins : E .number + 1 ≡ pivotCount P c → Eve P c (delayed P d r) n
     eve-begins e =
         record {
-          round = rw (← e) (round-on P o c R r n room E d h);
-          fast = omega (arith, all-done P o c R r n room E d h f (R .fast-below) .0);
+          round = rw (← e) (round-on o R room E d h);
+          fast = omega (arith, all-done o R room E d h f (R .fast-below) .0);
           silent = rw (node-delayed P r d a (R .sender-below) (omega (arith, R .sender-below)), sender-waits e);
           together = λ i l q. absurd (still-quiet i l q);
         }
@@ -175,12 +171,9 @@ module _ (P : Plan) (o : Sound P) (c : Parts) (R : Roles P c) where
   zero-in : 0 < P .frame .0
   zero-in = omega (arith, o .frame-low)
 
-  module _ (r : Run) (n : ℕ → ℕ) (room : P .nodes .0 ≤ length (r .nodes)) (E : Eve P c r n) where
-    G : ℕ
-    G = pivotCount P c
-
+  module _ {r : Run} {n : ℕ → ℕ} (room : P .nodes .0 ≤ length (r .nodes)) (E : Eve P c r n) where
     pub eve-on-time : OnTime P c (within r)
-    eve-on-time i l = rw (due-in P c i) (round-time P o (pivotCount P c) (n i) (node r i .time .0) (E .round i l .turned))
+    eve-on-time i l = rw (due-in P c i) (round-time o (E .round i l .turned))
 
     fast-due : Turned P (pivotCount P c) (n f) (node r f .time .0) → node r f .time .0 ≡ P .min .0
     fast-due (done e z) = absurd (omega (arith, E .fast))
@@ -190,11 +183,11 @@ module _ (P : Plan) (o : Sound P) (c : Parts) (R : Roles P c) where
     fast-time = fast-due (E .round f (R .fast-below) .turned)
 
     fast-at : (node r f .slot .0 ≡ c .p .0) × (node r f .clock .0 ≡ P .guard .0 - 1)
-    fast-at = at-count P o (own P f) (n f) (node r f) (E .round f (R .fast-below) .stands) (c .p .0) (P .guard .0 - 1) (pivot-in-frame P o c R) (omega (arith, o .guard-tail)) (omega (arith, E .fast, o .guard-low))
+    fast-at = at-count o (E .round f (R .fast-below) .stands) (c .p .0) (P .guard .0 - 1) (pivot-in-frame o R) (omega (arith, o .guard-tail)) (omega (arith, E .fast, o .guard-low))
 
     -- a node with the pivot's count stands at g in p
     at-pivot : (i : ℕ) → i < P .nodes .0 → n i ≡ pivotCount P c → (node r i .slot .0 ≡ c .p .0) × (node r i .clock .0 ≡ P .guard .0)
-    at-pivot i l e = at-count P o (own P i) (n i) (node r i) (E .round i l .stands) (c .p .0) (P .guard .0) (pivot-in-frame P o c R) (omega (arith, o .guard-tail)) e
+    at-pivot i l e = at-count o (E .round i l .stands) (c .p .0) (P .guard .0) (pivot-in-frame o R) (omega (arith, o .guard-tail)) e
 
     pub eve-delay : (d : ℕ) → DelayMove P c (within r) d → ⊥
     eve-delay d h = omega (arith, h .early f (R .fast-below), due-in P c f, fast-time)
@@ -202,17 +195,17 @@ module _ (P : Plan) (o : Sound P) (c : Parts) (R : Roles P c) where
     -- the fast node does not tick yet: the sender of p would have had its tick and be sending
     pub not-fast : TickMove P c (within r) f → ⊥
     not-fast h =
-        let late = fast-goes-last r f h refl a (R .sender-below) (sender-not-fast P o c R) in
-        let had = early-done P o (pivotCount P c) (n a) (node r a .time .0) (E .round a (R .sender-below) .turned) late .0 in
+        let late = fast-goes-last r f h refl a (R .sender-below) (sender-not-fast o R) in
+        let had = early-done o (E .round a (R .sender-below) .turned) late .0 in
         let at = at-pivot a (R .sender-below) had in
         clash (isSending (node r a .mode))
-        (busy P o 0 (own P a) zero-in (n a) (node r a) (E .round a (R .sender-below) .stands) (at .0 ∙ sym (R .sender-own)) (omega (arith, at .1)) (omega (arith, at .1, o .guard-tail)) (h .quiet a (R .sender-below)))
+        (busy o (E .round a (R .sender-below) .stands) (at .0 ∙ sym (R .sender-own)) (omega (arith, at .1)) (omega (arith, at .1, o .guard-tail)) (h .quiet a (R .sender-below)))
         (E .silent)
 
     pub eve-tick : (i : ℕ) → i ≢ f → TickMove P c (within r) i → Eve P c (ticked P i r) (bump n i)
     eve-tick i not-f h =
         record {
-          round = round-tick P o (pivotCount P c) r n room (E .round) (pivot-short P o c R) i (h .below) (h .quiet) (due-now r i h);
+          round = round-tick o (pivotCount P c) r n room (E .round) (pivot-short o R) i (h .below) (h .quiet) (due-now r i h);
           fast = rw (bump-other n i f (λ e. not-f (sym e))) (E .fast);
           silent = silent (ℕ-discrete a i);
           together = λ k l e j hj. together k l (ℕ-discrete k i) e j hj (ℕ-discrete j i);
@@ -223,15 +216,15 @@ module _ (P : Plan) (o : Sound P) (c : Parts) (R : Roles P c) where
         silent (no d) = rw (node-still P r i a d) (E .silent)
 
         lacks : n i + 1 ≡ pivotCount P c
-        lacks = due-lacks P o (pivotCount P c) (n i) (node r i .time .0) (E .round i (h .below) .turned) (due-now r i h)
+        lacks = due-lacks o (E .round i (h .below) .turned) (due-now r i h)
 
         -- who is about to send after the pivot's count sends in p
         is-sender : isAbout (nodeTicked P (own P i) (node r i) .mode) ≡ true → i ≡ a
         is-sender e =
-            let t = tick-stands P o 0 (own P i) zero-in (n i) (node r i) (h .quiet i (h .below)) (omega (arith, lacks, pivot-short P o c R)) (E .round i (h .below) .stands) in
+            let t = tick-stands o (h .quiet i (h .below)) (omega (arith, lacks, pivot-short o R)) (E .round i (h .below) .stands) in
             o .own-apart i a (h .below) (R .sender-below)
-            (sym (about-at P o 0 (own P i) zero-in (suc (n i)) (nodeTicked P (own P i) (node r i)) t e .0)
-            ∙ at-count P o (own P i) (suc (n i)) (nodeTicked P (own P i) (node r i)) t (c .p .0) (P .guard .0) (pivot-in-frame P o c R) (omega (arith, o .guard-tail)) (omega (arith, lacks)) .0
+            (sym (about-at o t e .0)
+            ∙ at-count o t (c .p .0) (P .guard .0) (pivot-in-frame o R) (omega (arith, o .guard-tail)) (omega (arith, lacks)) .0
             ∙ sym (R .sender-own))
 
         together : (k : ℕ) → k < P .nodes .0 → Dec (k ≡ i) → isAbout (node (ticked P i r) k .mode) ≡ true → (j : ℕ) → j < P .nodes .0 → Dec (j ≡ i) → j ≢ f → bump n i j ≡ pivotCount P c
@@ -240,17 +233,18 @@ module _ (P : Plan) (o : Sound P) (c : Parts) (R : Roles P c) where
         together k l (yes d) e j hj (no q) n′ =
             let turned = sym (ap (λ (x : NodeState). isAbout (x .mode)) (ap (node (ticked P i r)) d ∙ node-ticked P r i (omega (arith, h .below)))) ∙ e in
             let s = is-sender turned in
-            rw (bump-other n i j q) (early-done P o (pivotCount P c) (n j) (node r j .time .0) (E .round j hj .turned) (sender-goes-second r i h s j hj n′ (λ y. q (y ∙ sym s))) .0)
+            rw (bump-other n i j q) (early-done o (E .round j hj .turned) (sender-goes-second r i h s j hj n′ (λ y. q (y ∙ sym s))) .0)
 
     -- the message of the sender of p
 
     rebase : (w v : ℕ) (x : NodeState) → v ≡ pivotCount P c → Stands P 0 w v x → Stands P (c .p .0) w (P .guard .0) x
     rebase w v x e t =
-        let at = at-count P o w v x t (c .p .0) (P .guard .0) (pivot-in-frame P o c R) (omega (arith, o .guard-tail)) e in
+        let at = at-count o t (c .p .0) (P .guard .0) (pivot-in-frame o R) (omega (arith, o .guard-tail)) e in
         record {
+          base-in = pivot-in-frame o R;
           clock-in = t .clock-in;
           slot-in = t .slot-in;
-          counts = rw (at .0, distance-self (P .frame .0) (c .p .0) (pivot-in-frame P o c R)) (omega (arith, at .1));
+          counts = rw (at .0, distance-self (P .frame .0) (c .p .0) (pivot-in-frame o R)) (omega (arith, at .1));
           fits = t .fits;
         }
 
@@ -261,7 +255,7 @@ module _ (P : Plan) (o : Sound P) (c : Parts) (R : Roles P c) where
             slot = fast-at .0;
             clock = omega (arith, fast-at .1, o .guard-low);
             time = fast-time;
-            waits = waits-early P o 0 (own P f) zero-in (n f) (node r f) (E .round f (R .fast-below) .stands) (omega (arith, fast-at .1, o .guard-low));
+            waits = waits-early o (E .round f (R .fast-below) .stands) (omega (arith, fast-at .1, o .guard-low));
             heard = or-true-right (node r f .pending) (ltb (node r f .slot .0) (P .active .0)) (lt-ltb (node r f .slot .0) (P .active .0) (rw (fast-at .0, ← R .sender-own) (o .own-active a (R .sender-below))));
           });
           fast-count = E .fast;
@@ -270,7 +264,7 @@ module _ (P : Plan) (o : Sound P) (c : Parts) (R : Roles P c) where
         }
       where
         at : (node r i .slot .0 ≡ own P i) × (node r i .clock .0 ≡ P .guard .0)
-        at = about-at P o 0 (own P i) zero-in (n i) (node r i) (E .round i (h .below) .stands) (h .about)
+        at = about-at o (E .round i (h .below) .stands) (h .about)
 
         not-f : i ≢ f
         not-f e =
@@ -288,7 +282,7 @@ module _ (P : Plan) (o : Sound P) (c : Parts) (R : Roles P c) where
         other k l d (yes e) =
             let full = E .together i (h .below) (h .about) i (h .below) not-f in
             rw (e, node-sender P r i (h .below) (omega (arith, h .below))) (record {
-              stands = rebase (own P i) (n i) (nodeSent (node r i)) full (send-stands P o 0 (own P i) zero-in (n i) (node r i) (E .round i (h .below) .stands) (h .about));
+              stands = rebase (own P i) (n i) (nodeSent (node r i)) full (send-stands o (E .round i (h .below) .stands) (h .about));
               time = resting i full (E .round i (h .below) .turned);
               quiet = refl;
             })
@@ -297,14 +291,14 @@ module _ (P : Plan) (o : Sound P) (c : Parts) (R : Roles P c) where
             let there = at-pivot k l full in
             let off : node r k .slot .0 ≢ own P k = λ q. e (o .own-apart k i l (h .below) (sym q ∙ there .0 ∙ sym own-p)) in
             rw (node-hearing P r i k l (omega arith) e) (record {
-              stands = rebase (own P k) (n k) (nodeHearing P (node r k)) full (hear-stands P o 0 (own P k) zero-in (n k) (node r k) (E .round k l .stands) off (there .1));
+              stands = rebase (own P k) (n k) (nodeHearing P (node r k)) full (hear-stands o (E .round k l .stands) off (there .1));
               time = resting k full (E .round k l .turned);
-              quiet = rw (waits-away P o 0 (own P k) zero-in (n k) (node r k) (E .round k l .stands) off);
+              quiet = rw (waits-away o (E .round k l .stands) off);
             })
 
   -- after the message
 
-  module _ (r : Run) (n : ℕ → ℕ) (room : P .nodes .0 ≤ length (r .nodes)) (D : Dawn P c r n) where
+  module _ {r : Run} {n : ℕ → ℕ} (room : P .nodes .0 ≤ length (r .nodes)) (D : Dawn P c r n) where
     pub dawn-on-time : OnTime P c (within r)
     dawn-on-time i l = rw (due-in P c i) (go (ℕ-discrete i f))
       where
@@ -328,13 +322,14 @@ module _ (P : Plan) (o : Sound P) (c : Parts) (R : Roles P c) where
 
     pub dawn-fast : Wall P c (ticked P f r) (λ k. 0)
     dawn-fast =
-        let one-slot : 1 * P .ticks .0 ≤ farOf P c f * P .ticks .0 = mul-le-mul-right (P .ticks .0) (far-away P o c R f (R .fast-below) (R .fast-away)) in
+        let one-slot : 1 * P .ticks .0 ≤ farOf P c f * P .ticks .0 = mul-le-mul-right (P .ticks .0) (far-away o R f (R .fast-below) (R .fast-away)) in
         record {
           fast = rw at-fast (record {
             stands = record {
+              base-in = pivot-in-frame o R;
               clock-in = omega (arith, o .guard-tail);
-              slot-in = pivot-in-frame P o c R;
-              counts = rw (distance-self (P .frame .0) (c .p .0) (pivot-in-frame P o c R)) (omega arith);
+              slot-in = pivot-in-frame o R;
+              counts = rw (distance-self (P .frame .0) (c .p .0) (pivot-in-frame o R)) (omega arith);
               fits = away (λ e. R .fast-away (sym e));
             };
             time = omega arith;
@@ -359,7 +354,7 @@ module _ (P : Plan) (o : Sound P) (c : Parts) (R : Roles P c) where
         one : (i : ℕ) → i < P .nodes .0 → i ≢ f → Slow P c 0 passed i 0 (node r i)
         one i l d =
             let s = D .others i l d in
-            let hp = pivot-in-frame P o c R in
+            let hp = pivot-in-frame o R in
             let self = distance-self (P .frame .0) (c .p .0) hp in
             let none : P .guard .0 + 0 ≡ P .guard .0 = omega arith in
             record {
@@ -369,5 +364,5 @@ module _ (P : Plan) (o : Sound P) (c : Parts) (R : Roles P c) where
               first = λ e. absurd (omega (arith, o .min-low));
               first-about = λ e. clash false e refl;
               now = λ e. clash (isAbout (node r i .mode)) e (s .quiet);
-              alone = λ e. sym (sending-at P o (c .p .0) (own P i) hp (P .guard .0) (node r i) (s .stands) e) ∙ at-place P o (c .p .0) (own P i) hp (P .guard .0) (node r i) (s .stands) (c .p .0) (P .guard .0) hp (omega (arith, o .guard-tail)) (rw self (omega arith)) .0;
+              alone = λ e. sym (sending-at o (s .stands) e) ∙ at-place o (s .stands) (c .p .0) (P .guard .0) hp (omega (arith, o .guard-tail)) (rw self (omega arith)) .0;
             }

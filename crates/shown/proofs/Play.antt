@@ -1,17 +1,14 @@
 -- Which step of the shown run is next, and why: where no time is past due, it is legal.
 use Prim.Native.Nat.{ℕ, _+_, _-_, _≤_, _<_}
-use mathlib.Core.Path.{_≡_, refl, sym, ap, _∙_}
-use mathlib.Core.Bool.{Bool, true, false, cond, not, _&&_, _||_}
+use mathlib.Core.Path.{_≡_}
+use mathlib.Core.Bool.{Bool, true, false, _&&_}
 use native.Mathlib.Omega.{arith}
-use native.Mathlib.Decide.{decLt}
-use borrow.Author.Tests.{ltb-true, ltb-false, eqb-true, eqb-false, lt-ltb, le-ltb, eq-eqb}
+use borrow.Author.Tests.{ltb-true, ltb-false, eqb-true, eqb-false, le-ltb, eq-eqb}
 use lib.Dec.{eqb, ltb}
-use Rattle.laws.specs.Below.{anyBelow, firstBelow, leastBelow}
-use Rattle.laws.proofs.Bools.{clash, and-true-left, and-true-right, and-both, cond-by}
+use Rattle.laws.specs.Below.{firstBelow}
+use Rattle.laws.proofs.Bools.{and-true-left, and-true-right, cond-by}
 use Rattle.laws.proofs.Belows.{Found, found, none, first-found, any-never, least-under, least-reached}
 use Rattle.plan.specs.declared.Plan.{Plan}
-use Rattle.plan.specs.declared.Node.{Node}
-use Rattle.plan.specs.declared.Time.{Time}
 use Rattle.plan.specs.Tested.{Sound}
 use Rattle.run.specs.declared.Step.{Step}
 use Rattle.run.specs.declared.Step.the-variants.{Delay, TickOf, SendOf}

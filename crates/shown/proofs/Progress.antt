@@ -3,7 +3,7 @@
 use Prim.Native.Nat.{ℕ, zero, suc, _+_, _*_, _-_, _≤_, _<_}
 use mathlib.Core.Path.{_≡_, refl, sym, ap, _∙_}
 use mathlib.Core.Logic.{_≢_}
-use mathlib.Core.Bool.{Bool, true, false, cond, not, _&&_, _||_}
+use mathlib.Core.Bool.{Bool, true, false, cond}
 use mathlib.Core.List.{List, [], _∷_}
 use native.Mathlib.Nat.{not-suc-le-zero, zero-add, suc-add}
 use native.Mathlib.Decide.{ℕ-discrete}
@@ -35,11 +35,11 @@ use Rattle.shown.specs.declared.Mark.the-variants.{Before, In, After}
 use Rattle.shown.specs.declared.Place.{Place}
 use Rattle.shown.specs.declared.Parts.{Parts}
 use Rattle.shown.specs.declared.Given.{Given}
-use Rattle.shown.specs.declared.Next.the-variants.{Takes, Finished, Refused}
+use Rattle.shown.specs.declared.Next.the-variants.{Takes, Finished}
 use Rattle.shown.specs.Shown.{dueTime, pivotNext, nextStep, markAfter, placeAfter, stays, pastDue, givenBy, givenOf, placeAt, shownSteps}
 use Rattle.shown.specs.Ends.{ticksIn}
 use Rattle.shown.proofs.Sums.{sumBelow, sum-same, sum-but-one, sum-within}
-use Rattle.shown.proofs.Play.{OnTime, Quiet, SendMove, TickMove, DelayMove, Move, on-time, next-move, move-legal}
+use Rattle.shown.proofs.Play.{OnTime, TickMove, DelayMove, Move, on-time, next-move, move-legal}
 
 -- the shown run from q is legal and ends out of step, with at most n ticks
 pub record Reaches (P : Plan) (q : Place) (n : ℕ) : Type 0 where

@@ -1,12 +1,11 @@
 -- What the parts of a shown run are like, and how a rule fails, as facts on numbers.
 use Prim.Native.Nat.{ℕ, _+_, _*_, _≤_, _<_}
-use mathlib.Core.Path.{_≡_, refl, sym, ap, _∙_}
+use mathlib.Core.Path.{_≡_, sym, ap, _∙_}
 use mathlib.Core.Logic.{_≢_}
-use mathlib.Core.Bool.{Bool, true, false, not, _&&_}
+use mathlib.Core.Bool.{true, not}
 use native.Mathlib.Decide.{ℕ-discrete}
 use native.Mathlib.Omega.{arith}
 use borrow.Author.Tests.{ne-eqb}
-use lib.Dec.{eqb}
 use lib.ListN.{length}
 use Rattle.laws.specs.Below.{anyBelow}
 use Rattle.laws.specs.Ring.{distance}
@@ -56,7 +55,7 @@ pub data Failure (P : Plan) (c : Parts) : Type 0 where
   two : (b : ℕ) → FailsTwo P c b → Failure P c
   three : FailsThree P → Failure P c
 
-module _ (P : Plan) (o : Sound P) (c : Parts) (R : Roles P c) where
+module _ {P : Plan} {c : Parts} (o : Sound P) (R : Roles P c) where
   pub pivot-in-frame : c .p .0 < P .frame .0
   pivot-in-frame = rw (R .sender-own) at (own-in-frame P o (c .sender .0) (R .sender-below))
 

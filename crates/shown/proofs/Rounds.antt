@@ -1,37 +1,31 @@
 -- Before the pivot: rounds in which every node ticks once. In round T a node has ticked T times, or is due and lacks the last tick.
-use Prim.Native.Nat.{ℕ, zero, suc, _+_, _*_, _≤_, _<_}
+use Prim.Native.Nat.{ℕ, suc, _+_, _*_, _≤_, _<_}
 use mathlib.Core.Path.{_≡_, refl, sym, ap, _∙_}
 use mathlib.Core.Logic.{_≢_}
-use mathlib.Core.Bool.{Bool, true, false, cond, not, _&&_}
+use mathlib.Core.Bool.{true, not}
 use native.Mathlib.Nat.{mul-le-mul-right}
 use native.Mathlib.Decide.{ℕ-discrete}
 use native.Mathlib.Omega.{arith}
-use borrow.Author.Tests.{eqb-true, eq-eqb}
-use lib.Dec.{eqb}
 use lib.ListN.{length}
 use Rattle.laws.specs.Ring.{distance}
-use Rattle.laws.proofs.Bools.{clash, and-true-left, and-true-right, false-not-true}
+use Rattle.laws.proofs.Bools.{clash, false-not-true}
 use Rattle.laws.proofs.Ring.{on, distance-is, distance-same}
 use Rattle.plan.specs.declared.Plan.{Plan}
-use Rattle.plan.specs.declared.Time.{Time}
 use Rattle.plan.specs.Sending.{own}
 use Rattle.plan.specs.Tested.{Sound}
 use Rattle.plan.proofs.Sound.{own-in-frame}
-use Rattle.run.specs.declared.Mode.{Mode}
-use Rattle.run.specs.declared.Mode.the-variants.{Waiting, AboutToSend, Sending}
 use Rattle.run.specs.declared.NodeState.{NodeState}
 use Rattle.run.specs.declared.Run.{Run}
-use Rattle.run.specs.State.{node, isAbout, isSending, isWaiting}
-use Rattle.run.specs.Moves.{nodeTicked, nodeDelayed, nodeHearing, delayed, ticked, sent}
+use Rattle.run.specs.State.{node, isAbout}
+use Rattle.run.specs.Moves.{nodeTicked, nodeHearing, delayed, ticked, sent}
 use Rattle.run.proofs.Nodes.{node-ticked, node-still}
-use Rattle.shown.specs.declared.Mark.{Mark}
-use Rattle.shown.specs.declared.Mark.the-variants.{Before, In, After}
+use Rattle.shown.specs.declared.Mark.the-variants.{Before}
 use Rattle.shown.specs.declared.Place.{Place}
 use Rattle.shown.specs.declared.Parts.{Parts}
-use Rattle.shown.specs.Shown.{dueTime, turns, goesFirst, pivotNext}
+use Rattle.shown.specs.Shown.{dueTime, turns, goesFirst}
 use Rattle.shown.proofs.Play.{OnTime, Quiet, SendMove, TickMove, DelayMove, Turn, goes-first, goes-second, goes-third}
 use Rattle.shown.proofs.Progress.{bump, bump-same, bump-other, all-ticked, all-delayed, all-sent}
-use Rattle.shown.proofs.Stands.{Stands, same-digits, tick-stands, at-place, about-at, about-count, waits-early, delay-stands, send-stands, hear-stands}
+use Rattle.shown.proofs.Stands.{Stands, same-digits, tick-stands, at-place, about-at, about-count, delay-stands, send-stands, hear-stands}
 use Rattle.shown.proofs.Roles.{Roles, pivot-in-frame}
 
 -- a node in round T with v ticks and the time x
@@ -63,44 +57,44 @@ earlier r = record { run = r; mark = Before }
 pub from-0 : (C s : ℕ) → s < C → distance C 0 s ≡ s
 from-0 C s h = distance-is C 0 s s (omega arith) h h (on (omega arith))
 
-module _ (P : Plan) (o : Sound P) where
+module _ {P : Plan} (o : Sound P) where
   -- by its count a node is where it should be
-  pub at-count : (w v : ℕ) (a : NodeState) → Stands P 0 w v a → (s e : ℕ) → s < P .frame .0 → e < P .ticks .0 → v ≡ s * P .ticks .0 + e → (a .slot .0 ≡ s) × (a .clock .0 ≡ e)
-  at-count w v a h s e hs he q = at-place P o 0 w (omega (arith, o .frame-low)) v a h s e hs he (rw (from-0 (P .frame .0) s hs) q)
+  pub at-count : {w v : ℕ} {a : NodeState} → Stands P 0 w v a → (s e : ℕ) → s < P .frame .0 → e < P .ticks .0 → v ≡ s * P .ticks .0 + e → (a .slot .0 ≡ s) × (a .clock .0 ≡ e)
+  at-count h s e hs he q = at-place o h s e hs he (rw (from-0 (P .frame .0) s hs) q)
 
   -- of nodes with one count only one is about to send
-  pub about-one : (i j v : ℕ) (a b : NodeState) → i < P .nodes .0 → j < P .nodes .0 → Stands P 0 (own P i) v a → Stands P 0 (own P j) v b → isAbout (a .mode) ≡ true → isAbout (b .mode) ≡ true → i ≡ j
-  about-one i j v a b hi hj s t e d =
+  pub about-one : (i j : ℕ) {v : ℕ} {a b : NodeState} → i < P .nodes .0 → j < P .nodes .0 → Stands P 0 (own P i) v a → Stands P 0 (own P j) v b → isAbout (a .mode) ≡ true → isAbout (b .mode) ≡ true → i ≡ j
+  about-one i j hi hj s t e d =
       let zero-in : 0 < P .frame .0 = omega (arith, o .frame-low) in
-      let x = about-count P o 0 (own P i) zero-in v a s e in
-      let y = about-count P o 0 (own P j) zero-in v b t d in
+      let x = about-count o s e in
+      let y = about-count o t d in
       let z = same-digits (distance (P .frame .0) 0 (own P i)) (distance (P .frame .0) 0 (own P j)) (P .ticks .0) (P .guard .0) (P .guard .0) (omega (arith, o .guard-tail)) (omega (arith, o .guard-tail)) (sym x ∙ y) in
       o .own-apart i j hi hj (distance-same (P .frame .0) 0 (own P i) (own P j) zero-in (own-in-frame P o i hi) (own-in-frame P o j hj) (z .0))
 
-  pub round-time : (T v x : ℕ) → Turned P T v x → x ≤ P .min .0
-  round-time T v x (done e z) = omega arith
-  round-time T v x (due e z) = omega arith
+  pub round-time : {T v x : ℕ} → Turned P T v x → x ≤ P .min .0
+  round-time (done e z) = omega arith
+  round-time (due e z) = omega arith
 
-  pub round-count : (T v x : ℕ) → Turned P T v x → v ≤ T
-  round-count T v x (done e z) = omega arith
-  round-count T v x (due e z) = omega arith
+  pub round-count : {T v x : ℕ} → Turned P T v x → v ≤ T
+  round-count (done e z) = omega arith
+  round-count (due e z) = omega arith
 
   -- a node that is due lacks its tick, and one that isn't has had it
-  pub due-lacks : (T v x : ℕ) → Turned P T v x → x ≡ P .min .0 → v + 1 ≡ T
-  due-lacks T v x (done e z) h = absurd (omega (arith, o .min-low))
-  due-lacks T v x (due e z) h = e
+  pub due-lacks : {T v x : ℕ} → Turned P T v x → x ≡ P .min .0 → v + 1 ≡ T
+  due-lacks (done e z) h = absurd (omega (arith, o .min-low))
+  due-lacks (due e z) h = e
 
-  pub early-done : (T v x : ℕ) → Turned P T v x → x ≢ P .min .0 → (v ≡ T) × (x ≡ 0)
-  early-done T v x (done e z) h = (e, z)
-  early-done T v x (due e z) h = absurd (h z)
+  pub early-done : {T v x : ℕ} → Turned P T v x → x ≢ P .min .0 → (v ≡ T) × (x ≡ 0)
+  early-done (done e z) h = (e, z)
+  early-done (due e z) h = absurd (h z)
 
   module _ (T : ℕ) (r : Run) (n : ℕ → ℕ) (room : P .nodes .0 ≤ length (r .nodes)) (t : Round P T r n) where
     pub round-tick : T < P .frame .0 * P .ticks .0 → (i : ℕ) → i < P .nodes .0 → Quiet P (earlier r) → node r i .time .0 ≡ P .min .0 → Round P T (ticked P i r) (bump n i)
     round-tick l i hi quiet e =
-        let q = due-lacks T (n i) (node r i .time .0) (t i hi .turned) e in
+        let q = due-lacks (t i hi .turned) e in
         all-ticked P r room (λ k a v. InRound P T (own P k) v a) n i hi
         (record {
-          stands = tick-stands P o 0 (own P i) (omega (arith, o .frame-low)) (n i) (node r i) (quiet i hi) (omega arith) (t i hi .stands);
+          stands = tick-stands o (quiet i hi) (omega arith) (t i hi .stands);
           turned = done (omega arith) refl;
         })
         (λ k h d. t k h)
@@ -110,7 +104,7 @@ module _ (P : Plan) (o : Sound P) where
     round-delay h =
         all-delayed P r room (λ k a. InRound P (T + 1) (own P k) (n k) a) (P .min .0)
         (λ i l. record {
-          stands = delay-stands P o 0 (own P i) (omega (arith, o .frame-low)) (n i) (node r i) (t i l .stands) (P .min .0);
+          stands = delay-stands o (t i l .stands) (P .min .0);
           turned = due (omega (arith, h i l .0)) (omega (arith, h i l .1));
         })
 
@@ -129,15 +123,15 @@ turns-last P c r i j h e l d = go (h .turn)
     go (goes-second k s) = false-not-true (turns P r j) (k j l (d ∙ sym (due-before P c j)))
     go (goes-third k s) = false-not-true (turns P r j) (k j l (d ∙ sym (due-before P c j)))
 
-module _ (P : Plan) (o : Sound P) (c : Parts) (R : Roles P c) where
+module _ {P : Plan} {c : Parts} (o : Sound P) (R : Roles P c) where
   pub pivot-short : pivotCount P c < P .frame .0 * P .ticks .0
   pivot-short =
-      let z : (c .p .0 + 1) * P .ticks .0 ≤ P .frame .0 * P .ticks .0 = mul-le-mul-right (P .ticks .0) (omega (arith, pivot-in-frame P o c R)) in
+      let z : (c .p .0 + 1) * P .ticks .0 ≤ P .frame .0 * P .ticks .0 = mul-le-mul-right (P .ticks .0) (omega (arith, pivot-in-frame o R)) in
       omega (arith, o .guard-tail)
 
-  module _ (r : Run) (n : ℕ → ℕ) (room : P .nodes .0 ≤ length (r .nodes)) (E : Early P c r n) where
+  module _ {r : Run} {n : ℕ → ℕ} (room : P .nodes .0 ≤ length (r .nodes)) (E : Early P c r n) where
     pub early-on-time : OnTime P c (earlier r)
-    early-on-time i l = rw (due-before P c i) (round-time P o (E .number) (n i) (node r i .time .0) (E .round i l .turned))
+    early-on-time i l = rw (due-before P c i) (round-time o (E .round i l .turned))
 
     pub early-send : (i : ℕ) → SendMove P c (earlier r) i → Early P c (sent P i r) n
     early-send i h =
@@ -145,7 +139,7 @@ module _ (P : Plan) (o : Sound P) (c : Parts) (R : Roles P c) where
           number = E .number;
           before = E .before;
           round = all-sent P r room (λ k a. InRound P (E .number) (own P k) (n k) a) i (h .below)
-              (record { stands = send-stands P o 0 (own P i) zero-in (n i) (node r i) (E .round i (h .below) .stands) (h .about); turned = E .round i (h .below) .turned })
+              (record { stands = send-stands o (E .round i (h .below) .stands) (h .about); turned = E .round i (h .below) .turned })
               (λ k l d. record { stands = hears k l d; turned = E .round k l .turned });
           together = λ k l e. E .together i (h .below) (h .about);
         }
@@ -154,14 +148,14 @@ module _ (P : Plan) (o : Sound P) (c : Parts) (R : Roles P c) where
         zero-in = omega (arith, o .frame-low)
 
         at : (node r i .slot .0 ≡ own P i) × (node r i .clock .0 ≡ P .guard .0)
-        at = about-at P o 0 (own P i) zero-in (n i) (node r i) (E .round i (h .below) .stands) (h .about)
+        at = about-at o (E .round i (h .below) .stands) (h .about)
 
         hears : (k : ℕ) → k < P .nodes .0 → k ≢ i → Stands P 0 (own P k) (n k) (nodeHearing P (node r k))
         hears k l d =
-            let count = about-count P o 0 (own P i) zero-in (n i) (node r i) (E .round i (h .below) .stands) (h .about) in
+            let count = about-count o (E .round i (h .below) .stands) (h .about) in
             let same : n k ≡ n i = E .together i (h .below) (h .about) k l ∙ sym (E .together i (h .below) (h .about) i (h .below)) in
-            let there = at-place P o 0 (own P k) zero-in (n k) (node r k) (E .round k l .stands) (own P i) (P .guard .0) (own-in-frame P o i (h .below)) (omega (arith, o .guard-tail)) (same ∙ count) in
-            hear-stands P o 0 (own P k) zero-in (n k) (node r k) (E .round k l .stands) (λ e. d (o .own-apart k i l (h .below) (sym e ∙ there .0))) (there .1)
+            let there = at-place o (E .round k l .stands) (own P i) (P .guard .0) (own-in-frame P o i (h .below)) (omega (arith, o .guard-tail)) (same ∙ count) in
+            hear-stands o (E .round k l .stands) (λ e. d (o .own-apart k i l (h .below) (sym e ∙ there .0))) (there .1)
 
     pub early-tick : (i : ℕ) → TickMove P c (earlier r) i → Early P c (ticked P i r) (bump n i)
     early-tick i h =
@@ -176,21 +170,21 @@ module _ (P : Plan) (o : Sound P) (c : Parts) (R : Roles P c) where
         due-now = h .due ∙ due-before P c i
 
         round : Round P (E .number) (ticked P i r) (bump n i)
-        round = round-tick P o (E .number) r n room (E .round) (omega (arith, E .before, pivot-short)) i (h .below) (h .quiet) due-now
+        round = round-tick o (E .number) r n room (E .round) (omega (arith, E .before, pivot-short)) i (h .below) (h .quiet) due-now
 
         lacks : n i + 1 ≡ E .number
-        lacks = due-lacks P o (E .number) (n i) (node r i .time .0) (E .round i (h .below) .turned) due-now
+        lacks = due-lacks o (E .round i (h .below) .turned) due-now
 
         after : (k : ℕ) → k < P .nodes .0 → n k + 1 ≡ E .number → Stands P 0 (own P k) (E .number) (nodeTicked P (own P k) (node r k))
         after k l e =
             let q : suc (n k) ≡ E .number = omega arith in
-            rw q at (tick-stands P o 0 (own P k) (omega (arith, o .frame-low)) (n k) (node r k) (h .quiet k l) (omega (arith, E .before, pivot-short)) (E .round k l .stands))
+            rw q at (tick-stands o (h .quiet k l) (omega (arith, E .before, pivot-short)) (E .round k l .stands))
 
         -- another that is due would be about to send after the same count
         had : turns P r i ≡ true → (j : ℕ) → j < P .nodes .0 → j ≢ i → Turned P (E .number) (n j) (node r j .time .0) → n j ≡ E .number
         had e j l d (done q z) = q
         had e j l d (due q z) =
-            absurd (d (about-one P o j i (E .number) (nodeTicked P (own P j) (node r j)) (nodeTicked P (own P i) (node r i)) l (h .below) (after j l q) (after i (h .below) lacks) (turns-last P c r i j h e l z) e))
+            absurd (d (about-one o j i l (h .below) (after j l q) (after i (h .below) lacks) (turns-last P c r i j h e l z) e))
 
         together : (k : ℕ) → k < P .nodes .0 → Dec (k ≡ i) → isAbout (node (ticked P i r) k .mode) ≡ true → (j : ℕ) → j < P .nodes .0 → Dec (j ≡ i) → bump n i j ≡ E .number
         together k l (no d) e j hj q = clash (isAbout (node r k .mode)) (sym (ap (λ (a : NodeState). isAbout (a .mode)) (node-still P r i k d)) ∙ e) (h .quiet k l)
@@ -201,10 +195,10 @@ module _ (P : Plan) (o : Sound P) (c : Parts) (R : Roles P c) where
 
     -- a delay is taken when everybody had the round's tick, and lasts min
     pub all-done : (d : ℕ) → DelayMove P c (earlier r) d → (i : ℕ) → i < P .nodes .0 → (n i ≡ E .number) × (node r i .time .0 ≡ 0)
-    all-done d h i l = early-done P o (E .number) (n i) (node r i .time .0) (E .round i l .turned) (λ e. absurd (omega (arith, h .early i l, due-before P c i)))
+    all-done d h i l = early-done o (E .round i l .turned) (λ e. absurd (omega (arith, h .early i l, due-before P c i)))
 
     pub delay-is-min : (d : ℕ) → DelayMove P c (earlier r) d → d ≡ P .min .0
     delay-is-min d h = omega (arith, h .to-due, due-before P c (h .to), all-done d h (h .to) (h .to-below) .1)
 
     pub round-on : (d : ℕ) → DelayMove P c (earlier r) d → Round P (E .number + 1) (delayed P d r) n
-    round-on d h = rw (delay-is-min d h) (round-delay P o (E .number) r n room (E .round) (all-done d h))
+    round-on d h = rw (delay-is-min d h) (round-delay o (E .number) r n room (E .round) (all-done d h))

@@ -1,10 +1,10 @@
 -- One node by its count of ticks since slot p began: where it stands, and what its mode says of it. A tick counts one more.
-use Prim.Native.Nat.{ℕ, zero, suc, _+_, _*_, _%_, _≤_, _<_}
-use mathlib.Core.Path.{_≡_, refl, sym, ap, _∙_}
+use Prim.Native.Nat.{ℕ, suc, _+_, _*_, _%_, _≤_, _<_}
+use mathlib.Core.Path.{_≡_, refl, _∙_}
 use mathlib.Core.Logic.{_≢_}
 use mathlib.Core.Bool.{Bool, true, false, _||_}
-use native.Mathlib.Nat.{lt-of-mul-lt-mul-right, mul-le-mul-right}
-use native.Mathlib.Decide.{ℕ-discrete, decLt}
+use native.Mathlib.Nat.{lt-of-mul-lt-mul-right}
+use native.Mathlib.Decide.{ℕ-discrete}
 use native.Mathlib.Omega.{arith}
 use lib.Dec.{ltb}
 use Rattle.laws.specs.Ring.{distance}
@@ -44,14 +44,15 @@ Fits P w c s Sending false = (s ≡ w) × (P .guard .0 ≤ c) × (c + P .tail .0
 
 -- the node has ticked u times since slot p began
 pub record Stands (P : Plan) (p w u : ℕ) (a : NodeState) : Type 0 where
+  pub base-in : p < P .frame .0
   pub clock-in : a .clock .0 < P .ticks .0
   pub slot-in : a .slot .0 < P .frame .0
   pub counts : distance (P .frame .0) p (a .slot .0) * P .ticks .0 + a .clock .0 ≡ u
   pub fits : Fits P w (a .clock .0) (a .slot .0) (a .mode) (a .pending)
 
-module _ (P : Plan) (o : Sound P) (p w : ℕ) (hp : p < P .frame .0) where
-  pub tick-stands : (u : ℕ) (a : NodeState) → isAbout (a .mode) ≡ false → u + 1 < P .frame .0 * P .ticks .0 → Stands P p w u a → Stands P p w (suc u) (nodeTicked P w a)
-  tick-stands u a n l h = go (a .mode) (a .pending) n (h .fits)
+module _ {P : Plan} (o : Sound P) {p w : ℕ} where
+  pub tick-stands : {u : ℕ} {a : NodeState} → isAbout (a .mode) ≡ false → u + 1 < P .frame .0 * P .ticks .0 → Stands P p w u a → Stands P p w (suc u) (nodeTicked P w a)
+  tick-stands {u} {a} n l h = go (a .mode) (a .pending) n (h .fits)
     where
       c : ℕ
       c = a .clock .0
@@ -61,7 +62,7 @@ module _ (P : Plan) (o : Sound P) (p w : ℕ) (hp : p < P .frame .0) where
 
       -- a tick within the slot
       here : (m : Mode) → c + 1 < P .ticks .0 → Fits P w (c + 1) s m false → Stands P p w (suc u) (record { clock = record { 0 = c + 1 }; slot = a .slot; time = record { 0 = 0 }; mode = m; pending = false })
-      here m l f = record { clock-in = l; slot-in = h .slot-in; counts = omega (arith, h .counts); fits = f }
+      here m l f = record { base-in = h .base-in; clock-in = l; slot-in = h .slot-in; counts = omega (arith, h .counts); fits = f }
 
       -- the tick to the next slot
       onward : c + 1 ≡ P .ticks .0 → Stands P p w (suc u) (record { clock = record { 0 = 0 }; slot = record { 0 = (s + 1) % P .frame .0 }; time = record { 0 = 0 }; mode = Waiting; pending = false })
@@ -69,9 +70,10 @@ module _ (P : Plan) (o : Sound P) (p w : ℕ) (hp : p < P .frame .0) where
           let d = distance (P .frame .0) p s in
           let short : d + 1 < P .frame .0 = lt-of-mul-lt-mul-right (P .ticks .0) (omega (arith, h .counts)) in
           record {
+            base-in = h .base-in;
             clock-in = omega arith;
             slot-in = next-below (P .frame .0) s (omega arith);
-            counts = rw (distance-next (P .frame .0) p s hp (h .slot-in) short) (omega (arith, h .counts));
+            counts = rw (distance-next (P .frame .0) p s (h .base-in) (h .slot-in) short) (omega (arith, h .counts));
             fits = early (o .guard-low);
           }
 
@@ -101,11 +103,11 @@ module _ (P : Plan) (o : Sound P) (p w : ℕ) (hp : p < P .frame .0) where
       go Sending false n f = sends (f .1) (f .2) (f .0) (ℕ-discrete (c + P .tail .0 + 1) (P .ticks .0))
 
   -- what its count and its mode tell of a node
-  module _ (u : ℕ) (a : NodeState) (h : Stands P p w u a) where
+  module _ {u : ℕ} {a : NodeState} (h : Stands P p w u a) where
     pub at-place : (s e : ℕ) → s < P .frame .0 → e < P .ticks .0 → u ≡ distance (P .frame .0) p s * P .ticks .0 + e → (a .slot .0 ≡ s) × (a .clock .0 ≡ e)
     at-place s e hs he q =
         let z = same-digits (distance (P .frame .0) p (a .slot .0)) (distance (P .frame .0) p s) (P .ticks .0) (a .clock .0) e (h .clock-in) he (h .counts ∙ q) in
-        (distance-same (P .frame .0) p (a .slot .0) s hp (h .slot-in) hs (z .0), z .1)
+        (distance-same (P .frame .0) p (a .slot .0) s (h .base-in) (h .slot-in) hs (z .0), z .1)
 
     -- too few ticks for slot s, or too many
     pub before-slot : (s : ℕ) → u < distance (P .frame .0) p s * P .ticks .0 → a .slot .0 ≢ s
@@ -177,12 +179,11 @@ module _ (P : Plan) (o : Sound P) (p w : ℕ) (hp : p < P .frame .0) where
 
     -- a delay, a send and a message heard leave it where it stands
     pub delay-stands : (d : ℕ) → Stands P p w u (nodeDelayed d a)
-    delay-stands d = record { clock-in = h .clock-in; slot-in = h .slot-in; counts = h .counts; fits = h .fits }
+    delay-stands d = record { base-in = h .base-in; clock-in = h .clock-in; slot-in = h .slot-in; counts = h .counts; fits = h .fits }
 
     pub send-stands : isAbout (a .mode) ≡ true → Stands P p w u (nodeSent a)
     send-stands e =
-        let z = about-at e in
-        record { clock-in = h .clock-in; slot-in = h .slot-in; counts = h .counts; fits = go (a .mode) (a .pending) (h .fits) e }
+        record { base-in = h .base-in; clock-in = h .clock-in; slot-in = h .slot-in; counts = h .counts; fits = go (a .mode) (a .pending) (h .fits) e }
       where
         go : (m : Mode) (b : Bool) → Fits P w (a .clock .0) (a .slot .0) m b → isAbout m ≡ true → Fits P w (a .clock .0) (a .slot .0) Sending b
         go Waiting b f e = clash false e refl
@@ -192,7 +193,7 @@ module _ (P : Plan) (o : Sound P) (p w : ℕ) (hp : p < P .frame .0) where
 
     pub hear-stands : a .slot .0 ≢ w → a .clock .0 ≡ P .guard .0 → Stands P p w u (nodeHearing P a)
     hear-stands n e =
-        record { clock-in = h .clock-in; slot-in = h .slot-in; counts = h .counts; fits = rw (waits-away n) (go (a .pending || ltb (a .slot .0) (P .active .0))) }
+        record { base-in = h .base-in; clock-in = h .clock-in; slot-in = h .slot-in; counts = h .counts; fits = rw (waits-away n) (go (a .pending || ltb (a .slot .0) (P .active .0))) }
       where
         go : (b : Bool) → Fits P w (a .clock .0) (a .slot .0) Waiting b
         go true = (n, e)

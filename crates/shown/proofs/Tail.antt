@@ -1,9 +1,9 @@
 -- The end of rule 2's run: node b sends, the fast node stands in b's slot at its last clock, and its next tick leads out of it.
 -- Before that tick only those tick that were due when b sent.
-use Prim.Native.Nat.{ℕ, suc, _+_, _*_, _%_, _≤_, _<_}
-use mathlib.Core.Path.{_≡_, refl, sym, ap, _∙_}
+use Prim.Native.Nat.{ℕ, _+_, _*_, _%_, _≤_, _<_}
+use mathlib.Core.Path.{_≡_, sym, ap}
 use mathlib.Core.Logic.{_≢_}
-use mathlib.Core.Bool.{Bool, true, false}
+use mathlib.Core.Bool.{true, false}
 use native.Mathlib.Decide.{ℕ-discrete}
 use native.Mathlib.Omega.{arith}
 use lib.ListN.{length}
@@ -12,21 +12,18 @@ use Rattle.laws.proofs.Ring.{Reaches, on, round, next-place}
 use Rattle.plan.specs.declared.Plan.{Plan}
 use Rattle.plan.specs.Sending.{own}
 use Rattle.plan.specs.Tested.{Sound}
-use Rattle.run.specs.declared.Mode.{Mode}
-use Rattle.run.specs.declared.Mode.the-variants.{Waiting, AboutToSend, Sending}
+use Rattle.run.specs.declared.Mode.the-variants.{Waiting}
 use Rattle.run.specs.declared.NodeState.{NodeState}
 use Rattle.run.specs.declared.Run.{Run}
-use Rattle.run.specs.declared.Step.{Step}
-use Rattle.run.specs.declared.Step.the-variants.{Delay, TickOf, SendOf}
 use Rattle.run.specs.State.{node, isAbout, isSending, outOfStep}
-use Rattle.run.specs.Moves.{nodeTicked, nodeDelayed, delayed, ticked}
+use Rattle.run.specs.Moves.{nodeDelayed, delayed, ticked}
 use Rattle.run.proofs.Outcomes.{mode-elsewhere, slot-moves}
 use Rattle.run.proofs.Nodes.{node-delayed, node-still}
 use Rattle.shown.specs.declared.Mark.the-variants.{After}
 use Rattle.shown.specs.declared.Parts.{Parts}
 use Rattle.shown.specs.Shown.{dueTime}
 use Rattle.shown.proofs.Play.{OnTime, SendMove, TickMove, DelayMove}
-use Rattle.shown.proofs.Progress.{bump, bump-same, bump-other, all-ticked, all-delayed}
+use Rattle.shown.proofs.Progress.{bump, bump-other, all-ticked, all-delayed}
 use Rattle.shown.proofs.Roles.{Roles, tick-apart}
 use Rattle.shown.proofs.Wall.{later, due-fast, due-slow, fast-goes-first}
 
@@ -58,64 +55,67 @@ pub record Tail (P : Plan) (c : Parts) (r : Run) (m : ℕ → ℕ) : Type 0 wher
   pub fast : Leaving P slot (m (c .fast .0)) (node r (c .fast .0))
   pub beside : (i : ℕ) → i < P .nodes .0 → i ≢ c .fast .0 → Beside P by (node r (c .fast .0) .time .0) i (m i) (node r i)
 
-module _ (P : Plan) (o : Sound P) (c : Parts) (R : Roles P c) (r : Run) (m : ℕ → ℕ) (room : P .nodes .0 ≤ length (r .nodes)) (t : Tail P c r m) where
+module _ {P : Plan} {c : Parts} {r : Run} {m : ℕ → ℕ} (o : Sound P) (R : Roles P c) (room : P .nodes .0 ≤ length (r .nodes)) (t : Tail P c r m) where
+  abbrev f : ℕ
+  f = c .fast .0
+
   pub tail-short : (i : ℕ) → i < P .nodes .0 → P .guard .0 + m i < P .frame .0 * P .ticks .0
-  tail-short i l = go (ℕ-discrete i (c .fast .0))
+  tail-short i l = go (ℕ-discrete i f)
     where
-      at : Beside P (t .by) (node r (c .fast .0) .time .0) i (m i) (node r i) → P .guard .0 + m i < P .frame .0 * P .ticks .0
+      at : Beside P (t .by) (node r f .time .0) i (m i) (node r i) → P .guard .0 + m i < P .frame .0 * P .ticks .0
       at (still-due n e w s h) = omega arith
       at (rests e a h) = h
 
-      go : Dec (i ≡ c .fast .0) → P .guard .0 + m i < P .frame .0 * P .ticks .0
+      go : Dec (i ≡ f) → P .guard .0 + m i < P .frame .0 * P .ticks .0
       go (yes e) = rw e (t .fast .short)
       go (no n) = at (t .beside i l n)
 
   pub tail-on-time : OnTime P c (later r)
-  tail-on-time i l = go (ℕ-discrete i (c .fast .0))
+  tail-on-time i l = go (ℕ-discrete i f)
     where
-      at : Beside P (t .by) (node r (c .fast .0) .time .0) i (m i) (node r i) → node r i .time .0 ≤ P .max .0
+      at : Beside P (t .by) (node r f .time .0) i (m i) (node r i) → node r i .time .0 ≤ P .max .0
       at (still-due n e w s h) = omega arith
       at (rests e a h) = omega (arith, t .fast .time)
 
-      go : Dec (i ≡ c .fast .0) → node r i .time .0 ≤ dueTime P c After i
+      go : Dec (i ≡ f) → node r i .time .0 ≤ dueTime P c After i
       go (yes e) = rw (e, due-fast P c) (t .fast .time)
       go (no n) = rw (due-slow P c i n) (at (t .beside i l n))
 
   -- nobody is about to send
   pub tail-send : (i : ℕ) → SendMove P c (later r) i → ⊥
-  tail-send i h = go (ℕ-discrete i (c .fast .0))
+  tail-send i h = go (ℕ-discrete i f)
     where
       waiting : (k : ℕ) → node r k .mode ≡ Waiting → isAbout (node r k .mode) ≡ true → ⊥
       waiting k e a = clash (isAbout (node r k .mode)) a (ap isAbout e)
 
-      at : Beside P (t .by) (node r (c .fast .0) .time .0) i (m i) (node r i) → ⊥
+      at : Beside P (t .by) (node r f .time .0) i (m i) (node r i) → ⊥
       at (still-due n e w s l) = waiting i w (h .about)
       at (rests e a l) = clash (isAbout (node r i .mode)) (h .about) a
 
-      go : Dec (i ≡ c .fast .0) → ⊥
-      go (yes e) = waiting (c .fast .0) (t .fast .waits) (rw e at (h .about))
+      go : Dec (i ≡ f) → ⊥
+      go (yes e) = waiting f (t .fast .waits) (rw e at (h .about))
       go (no n) = at (t .beside i (h .below) n)
 
   -- the fast node's tick
-  pub tail-out : outOfStep P (ticked P (c .fast .0) r) ≡ true
+  pub tail-out : outOfStep P (ticked P f r) ≡ true
   tail-out =
-      tick-apart P r room (c .fast .0) (t .by) (R .fast-below) (t .below) (t .other) (t .speaks .sends)
-      (rw (t .fast .waits, slot-moves P (node r (c .fast .0) .clock .0) (node r (c .fast .0) .slot .0) (t .fast .clock), t .fast .slot, t .speaks .slot) (moves (next-place (P .frame .0) (t .slot) (t .slot-in))))
+      tick-apart P r room f (t .by) (R .fast-below) (t .below) (t .other) (t .speaks .sends)
+      (rw (t .fast .waits, slot-moves P (node r f .clock .0) (node r f .slot .0) (t .fast .clock), t .fast .slot, t .speaks .slot) (moves (next-place (P .frame .0) (t .slot) (t .slot-in))))
     where
       moves : Reaches (P .frame .0) (t .slot) 1 ((t .slot + 1) % P .frame .0) → (t .slot + 1) % P .frame .0 ≢ t .slot
       moves (on e) = omega arith
       moves (round e) = omega (arith, o .frame-low)
 
-  pub tail-slow : (i : ℕ) → i ≢ c .fast .0 → TickMove P c (later r) i → Tail P c (ticked P i r) (bump m i)
+  pub tail-slow : (i : ℕ) → i ≢ f → TickMove P c (later r) i → Tail P c (ticked P i r) (bump m i)
   tail-slow i n h = go (t .beside i (h .below) n)
     where
-      early : node r (c .fast .0) .time .0 ≢ P .min .0
+      early : node r f .time .0 ≢ P .min .0
       early = fast-goes-first P c r i (R .fast-below) n h
 
-      at-fast : node (ticked P i r) (c .fast .0) ≡ node r (c .fast .0)
-      at-fast = node-still P r i (c .fast .0) (λ e. n (sym e))
+      at-fast : node (ticked P i r) f ≡ node r f
+      at-fast = node-still P r i f (λ e. n (sym e))
 
-      go : Beside P (t .by) (node r (c .fast .0) .time .0) i (m i) (node r i) → Tail P c (ticked P i r) (bump m i)
+      go : Beside P (t .by) (node r f .time .0) i (m i) (node r i) → Tail P c (ticked P i r) (bump m i)
       go (still-due d e w s l) =
           record {
             by = t .by;
@@ -124,8 +124,8 @@ module _ (P : Plan) (o : Sound P) (c : Parts) (R : Roles P c) (r : Run) (m : ℕ
             slot = t .slot;
             slot-in = t .slot-in;
             speaks = rw (node-still P r i (t .by) (λ q. d (sym q))) (t .speaks);
-            fast = rw (at-fast, bump-other m i (c .fast .0) (λ e. n (sym e))) (t .fast);
-            beside = rw at-fast (all-ticked P r room (λ k a l. k ≢ c .fast .0 → Beside P (t .by) (node r (c .fast .0) .time .0) k l a) m i (h .below)
+            fast = rw (at-fast, bump-other m i f (λ e. n (sym e))) (t .fast);
+            beside = rw at-fast (all-ticked P r room (λ k a l. k ≢ f → Beside P (t .by) (node r f .time .0) k l a) m i (h .below)
                 (λ q. rests (omega (arith, o .min-max)) (rw (w, mode-elsewhere P (own P i) (node r i .clock .0) (node r i .slot .0) s)) (omega arith))
                 (λ k l q. t .beside k l));
           }
@@ -133,7 +133,7 @@ module _ (P : Plan) (o : Sound P) (c : Parts) (R : Roles P c) (r : Run) (m : ℕ
 
   pub tail-delay : (d : ℕ) → DelayMove P c (later r) d → Tail P c (delayed P d r) m
   tail-delay d h =
-      let f = t .fast in
+      let x = t .fast in
       record {
         by = t .by;
         below = t .below;
@@ -141,13 +141,13 @@ module _ (P : Plan) (o : Sound P) (c : Parts) (R : Roles P c) (r : Run) (m : ℕ
         slot = t .slot;
         slot-in = t .slot-in;
         speaks = rw (node-delayed P r d (t .by) (t .below) (omega (arith, t .below))) (record { sends = t .speaks .sends; slot = t .speaks .slot });
-        fast = rw at-fast (record { time = rw (due-fast P c) at (h .within (c .fast .0) (R .fast-below)); waits = f .waits; clock = f .clock; slot = f .slot; short = f .short });
-        beside = rw at-fast (all-delayed P r room (λ i a. i ≢ c .fast .0 → Beside P (t .by) (node r (c .fast .0) .time .0 + d) i (m i) a) d (λ i l n. go i n (h .early i l) (t .beside i l n)));
+        fast = rw at-fast (record { time = rw (due-fast P c) at (h .within f (R .fast-below)); waits = x .waits; clock = x .clock; slot = x .slot; short = x .short });
+        beside = rw at-fast (all-delayed P r room (λ i a. i ≢ f → Beside P (t .by) (node r f .time .0 + d) i (m i) a) d (λ i l n. go i n (h .early i l) (t .beside i l n)));
       }
     where
-      at-fast : node (delayed P d r) (c .fast .0) ≡ nodeDelayed d (node r (c .fast .0))
-      at-fast = node-delayed P r d (c .fast .0) (R .fast-below) (omega (arith, R .fast-below))
+      at-fast : node (delayed P d r) f ≡ nodeDelayed d (node r f)
+      at-fast = node-delayed P r d f (R .fast-below) (omega (arith, R .fast-below))
 
-      go : (i : ℕ) → i ≢ c .fast .0 → node r i .time .0 < dueTime P c After i → Beside P (t .by) (node r (c .fast .0) .time .0) i (m i) (node r i) → Beside P (t .by) (node r (c .fast .0) .time .0 + d) i (m i) (nodeDelayed d (node r i))
+      go : (i : ℕ) → i ≢ f → node r i .time .0 < dueTime P c After i → Beside P (t .by) (node r f .time .0) i (m i) (node r i) → Beside P (t .by) (node r f .time .0 + d) i (m i) (nodeDelayed d (node r i))
       go i n l (still-due q e w s u) = absurd (omega (arith, due-slow P c i n))
       go i n l (rests e a u) = rests (omega arith) a u

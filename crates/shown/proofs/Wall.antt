@@ -1,15 +1,14 @@
 -- After the pivot, while nobody has sent since: all read one clock on the wall, the fast node by min and the others by max.
-use Prim.Native.Nat.{ℕ, zero, suc, _+_, _*_, _≤_, _<_}
-use mathlib.Core.Path.{_≡_, refl, sym, ap, _∙_}
+use Prim.Native.Nat.{ℕ, suc, _+_, _*_, _≤_, _<_}
+use mathlib.Core.Path.{_≡_, refl, sym, _∙_}
 use mathlib.Core.Logic.{_≢_}
-use mathlib.Core.Bool.{Bool, true, false, cond, not, _&&_}
-use native.Mathlib.Nat.{lt-of-mul-lt-mul-right, mul-le-mul-right, mul-le-mul-left}
+use mathlib.Core.Bool.{Bool, true, false, _&&_}
+use native.Mathlib.Nat.{mul-le-mul-right, mul-le-mul-left}
 use native.Mathlib.Decide.{ℕ-discrete, decLe}
 use native.Mathlib.Omega.{arith}
 use borrow.Author.Tests.{eq-eqb, ne-eqb, eqb-true}
 use lib.Dec.{eqb}
 use lib.ListN.{length}
-use Rattle.laws.specs.Ring.{distance}
 use Rattle.laws.proofs.Bools.{clash, cond-by}
 use Rattle.laws.proofs.Ring.{distance-below}
 use Rattle.plan.specs.declared.Plan.{Plan}
@@ -23,15 +22,14 @@ use Rattle.run.specs.declared.Run.{Run}
 use Rattle.run.specs.State.{node, isAbout, isSending}
 use Rattle.run.specs.Moves.{modeAfter, nodeTicked, nodeDelayed, delayed, ticked}
 use Rattle.run.proofs.Nodes.{node-delayed, node-ticked, node-still}
-use Rattle.shown.specs.declared.Mark.{Mark}
-use Rattle.shown.specs.declared.Mark.the-variants.{Before, In, After}
+use Rattle.shown.specs.declared.Mark.the-variants.{After}
 use Rattle.shown.specs.declared.Place.{Place}
 use Rattle.shown.specs.declared.Parts.{Parts}
-use Rattle.shown.specs.Shown.{dueTime, goesFirst, goesSecond}
-use Rattle.shown.proofs.Play.{OnTime, Quiet, TickMove, DelayMove, Turn, goes-first, goes-second, goes-third}
+use Rattle.shown.specs.Shown.{dueTime, goesFirst}
+use Rattle.shown.proofs.Play.{OnTime, TickMove, DelayMove, Turn, goes-first, goes-second, goes-third}
 use Rattle.shown.proofs.Progress.{bump, bump-same, bump-other, all-ticked, all-delayed}
 use Rattle.shown.proofs.Stands.{Stands, tick-stands, about-count, busy, at-place, delay-stands}
-use Rattle.shown.proofs.Roles.{Roles, farOf, pivot-in-frame, far-away, far-none}
+use Rattle.shown.proofs.Roles.{Roles, farOf, far-none}
 
 -- who neither sends nor is about to does not send after its tick
 pub still-silent : (P : Plan) (w c s : ℕ) (m : Mode) → isAbout m ≡ false → isSending m ≡ false → isSending (modeAfter P w c s m) ≡ false
@@ -95,12 +93,15 @@ pub record Wall (P : Plan) (c : Parts) (r : Run) (m : ℕ → ℕ) : Type 0 wher
   pub fast : Fast P c (m (c .fast .0)) (node r (c .fast .0))
   pub slow : (i : ℕ) → i < P .nodes .0 → i ≢ c .fast .0 → Slow P c (m (c .fast .0)) (node r (c .fast .0)) i (m i) (node r i)
 
-module _ (P : Plan) (o : Sound P) (c : Parts) (R : Roles P c) where
+module _ {P : Plan} {c : Parts} (o : Sound P) (R : Roles P c) where
+  abbrev f : ℕ
+  f = c .fast .0
+
   -- one node
 
   -- the others never have more ticks than the fast node
-  pub not-ahead : (j : ℕ) (f : NodeState) (i m : ℕ) (a : NodeState) → f .time .0 ≤ P .min .0 → Slow P c j f i m a → m ≤ j
-  not-ahead j f i m a l s = go (decLe m j)
+  pub not-ahead : {j i m : ℕ} {x a : NodeState} → x .time .0 ≤ P .min .0 → Slow P c j x i m a → m ≤ j
+  not-ahead {j} {i} {m} l s = go (decLe m j)
     where
       go : Dec (m ≤ j) → m ≤ j
       go (yes h) = h
@@ -110,69 +111,70 @@ module _ (P : Plan) (o : Sound P) (c : Parts) (R : Roles P c) where
           absurd (omega (arith, s .first (omega (arith, s .wall, o .min-max)), s .wall, o .min-max))
 
   -- another node that is about to send has come to its own slot, and that isn't p
-  pub slow-about : (j : ℕ) (f : NodeState) (i m : ℕ) (a : NodeState) → Slow P c j f i m a → isAbout (a .mode) ≡ true → (own P i ≢ c .p .0) × (m ≡ farOf P c i * P .ticks .0)
-  slow-about j f i m a s e =
-      let u : P .guard .0 + m ≡ farOf P c i * P .ticks .0 + P .guard .0 = about-count P o (c .p .0) (own P i) (pivot-in-frame P o c R) (P .guard .0 + m) a (s .stands) e in
-      (λ q. absurd (let z : P .guard .0 + m ≡ 0 * P .ticks .0 + P .guard .0 = rw (far-none P o c R i q) at u in omega (arith, s .now e .0)), omega arith)
+  pub slow-about : {j i m : ℕ} {x a : NodeState} → Slow P c j x i m a → isAbout (a .mode) ≡ true → (own P i ≢ c .p .0) × (m ≡ farOf P c i * P .ticks .0)
+  slow-about {j} {i} {m} s e =
+      let u : P .guard .0 + m ≡ farOf P c i * P .ticks .0 + P .guard .0 = about-count o (s .stands) e in
+      (λ q. absurd (let z : P .guard .0 + m ≡ 0 * P .ticks .0 + P .guard .0 = rw (far-none o R i q) at u in omega (arith, s .now e .0)), omega arith)
 
   -- the fast node at the limit is about to send
-  pub fast-at-limit : (j : ℕ) (a : NodeState) → Fast P c j a → isAbout (a .mode) ≡ false → 1 + j < farOf P c (c .fast .0) * P .ticks .0
-  fast-at-limit j a f e = go (ℕ-discrete (1 + j) (farOf P c (c .fast .0) * P .ticks .0))
+  pub fast-at-limit : {j : ℕ} {a : NodeState} → Fast P c j a → isAbout (a .mode) ≡ false → 1 + j < farOf P c f * P .ticks .0
+  fast-at-limit {j} {a} x e = go (ℕ-discrete (1 + j) (farOf P c f * P .ticks .0))
     where
-      go : Dec (1 + j ≡ farOf P c (c .fast .0) * P .ticks .0) → 1 + j < farOf P c (c .fast .0) * P .ticks .0
+      go : Dec (1 + j ≡ farOf P c f * P .ticks .0) → 1 + j < farOf P c f * P .ticks .0
       go (yes q) =
-          let w = own P (c .fast .0) in
-          let z = at-place P o (c .p .0) w (pivot-in-frame P o c R) (P .guard .0 + 1 + j) a (f .stands) w (P .guard .0) (own-in-frame P o (c .fast .0) (R .fast-below)) (omega (arith, o .guard-tail)) (omega arith) in
-          clash (isSending (a .mode)) (busy P o (c .p .0) w (pivot-in-frame P o c R) (P .guard .0 + 1 + j) a (f .stands) (z .0) (omega (arith, z .1)) (omega (arith, z .1, o .guard-tail)) e) (f .silent)
-      go (no q) = omega (arith, f .limit)
+          let w = own P f in
+          let z = at-place o (x .stands) w (P .guard .0) (own-in-frame P o f (R .fast-below)) (omega (arith, o .guard-tail)) (omega arith) in
+          clash (isSending (a .mode)) (busy o (x .stands) (z .0) (omega (arith, z .1)) (omega (arith, z .1, o .guard-tail)) e) (x .silent)
+      go (no q) = omega (arith, x .limit)
 
-  fast-short : (P .guard .0) + (farOf P c (c .fast .0) * P .ticks .0) < P .frame .0 * P .ticks .0
+  fast-short : (P .guard .0) + (farOf P c f * P .ticks .0) < P .frame .0 * P .ticks .0
   fast-short =
-      let z : (farOf P c (c .fast .0) + 1) * P .ticks .0 ≤ P .frame .0 * P .ticks .0 = mul-le-mul-right (P .ticks .0) (omega (arith, distance-below (P .frame .0) (c .p .0) (own P (c .fast .0)) (omega (arith, o .frame-low)))) in
+      let z : (farOf P c f + 1) * P .ticks .0 ≤ P .frame .0 * P .ticks .0 = mul-le-mul-right (P .ticks .0) (omega (arith, distance-below (P .frame .0) (c .p .0) (own P f) (omega (arith, o .frame-low)))) in
       omega (arith, o .guard-tail)
 
   -- the run
 
-  module _ (r : Run) (m : ℕ → ℕ) (room : P .nodes .0 ≤ length (r .nodes)) (w : Wall P c r m) where
-    pub behind : (i : ℕ) → i < P .nodes .0 → i ≢ c .fast .0 → m i ≤ m (c .fast .0)
-    behind i l n = not-ahead (m (c .fast .0)) (node r (c .fast .0)) i (m i) (node r i) (w .fast .time) (w .slow i l n)
+  module _ {r : Run} {m : ℕ → ℕ} (w : Wall P c r m) where
+    pub behind : (i : ℕ) → i < P .nodes .0 → i ≢ f → m i ≤ m f
+    behind i l n = not-ahead (w .fast .time) (w .slow i l n)
 
     -- nobody has ticked a whole frame
     pub short : (i : ℕ) → i < P .nodes .0 → P .guard .0 + m i < P .frame .0 * P .ticks .0
-    short i l = go (ℕ-discrete i (c .fast .0))
+    short i l = go (ℕ-discrete i f)
       where
-        go : Dec (i ≡ c .fast .0) → P .guard .0 + m i < P .frame .0 * P .ticks .0
+        go : Dec (i ≡ f) → P .guard .0 + m i < P .frame .0 * P .ticks .0
         go (yes e) = rw e (omega (arith, fast-short, w .fast .limit))
         go (no n) = omega (arith, fast-short, w .fast .limit, behind i l n)
 
     pub wall-on-time : OnTime P c (later r)
-    wall-on-time i l = go (ℕ-discrete i (c .fast .0))
+    wall-on-time i l = go (ℕ-discrete i f)
       where
-        go : Dec (i ≡ c .fast .0) → node r i .time .0 ≤ dueTime P c After i
+        go : Dec (i ≡ f) → node r i .time .0 ≤ dueTime P c After i
         go (yes e) = rw (e, due-fast P c) (w .fast .time)
         go (no n) = rw (due-slow P c i n) (w .slow i l n .time)
 
+  module _ {r : Run} {m : ℕ → ℕ} (room : P .nodes .0 ≤ length (r .nodes)) (w : Wall P c r m) where
     pub wall-delay : (d : ℕ) → DelayMove P c (later r) d → Wall P c (delayed P d r) m
     wall-delay d h =
         record {
           fast = rw at-fast (record {
-            stands = delay-stands P o (c .p .0) (own P (c .fast .0)) (pivot-in-frame P o c R) (P .guard .0 + 1 + m (c .fast .0)) (node r (c .fast .0)) (w .fast .stands) d;
-            time = rw (due-fast P c) at (h .within (c .fast .0) (R .fast-below));
-            now = λ e. clash (isAbout (node r (c .fast .0) .mode)) e (h .quiet (c .fast .0) (R .fast-below));
+            stands = delay-stands o (w .fast .stands) d;
+            time = rw (due-fast P c) at (h .within f (R .fast-below));
+            now = λ e. clash (isAbout (node r f .mode)) e (h .quiet f (R .fast-below));
             silent = w .fast .silent;
             limit = w .fast .limit;
           });
-          slow = rw at-fast (all-delayed P r room (λ i a. i ≢ c .fast .0 → Slow P c (m (c .fast .0)) (nodeDelayed d (node r (c .fast .0))) i (m i) a) d one);
+          slow = rw at-fast (all-delayed P r room (λ i a. i ≢ f → Slow P c (m f) (nodeDelayed d (node r f)) i (m i) a) d one);
         }
       where
-        at-fast : node (delayed P d r) (c .fast .0) ≡ nodeDelayed d (node r (c .fast .0))
-        at-fast = node-delayed P r d (c .fast .0) (R .fast-below) (omega (arith, R .fast-below))
+        at-fast : node (delayed P d r) f ≡ nodeDelayed d (node r f)
+        at-fast = node-delayed P r d f (R .fast-below) (omega (arith, R .fast-below))
 
-        one : (i : ℕ) → i < P .nodes .0 → i ≢ c .fast .0 → Slow P c (m (c .fast .0)) (nodeDelayed d (node r (c .fast .0))) i (m i) (nodeDelayed d (node r i))
+        one : (i : ℕ) → i < P .nodes .0 → i ≢ f → Slow P c (m f) (nodeDelayed d (node r f)) i (m i) (nodeDelayed d (node r i))
         one i l n =
             let s = w .slow i l n in
             record {
-              stands = delay-stands P o (c .p .0) (own P i) (pivot-in-frame P o c R) (P .guard .0 + m i) (node r i) (s .stands) d;
+              stands = delay-stands o (s .stands) d;
               time = rw (due-slow P c i n) at (h .within i l);
               wall = omega (arith, s .wall);
               first = λ e. omega (arith, h .some);
@@ -181,32 +183,31 @@ module _ (P : Plan) (o : Sound P) (c : Parts) (R : Roles P c) where
               alone = s .alone;
             }
 
-    pub wall-fast : TickMove P c (later r) (c .fast .0) → Wall P c (ticked P (c .fast .0) r) (bump m (c .fast .0))
+    pub wall-fast : TickMove P c (later r) f → Wall P c (ticked P f r) (bump m f)
     wall-fast h =
-        let f = w .fast in
-        let quiet = h .quiet (c .fast .0) (R .fast-below) in
-        let limit = fast-at-limit (m (c .fast .0)) (node r (c .fast .0)) f quiet in
+        let quiet = h .quiet f (R .fast-below) in
+        let limit = fast-at-limit (w .fast) quiet in
         record {
-          fast = rw (at-fast, bump-same m (c .fast .0)) (record {
-            stands = rw more (tick-stands P o (c .p .0) (own P (c .fast .0)) (pivot-in-frame P o c R) (P .guard .0 + 1 + m (c .fast .0)) (node r (c .fast .0)) quiet (omega (arith, fast-short)) (f .stands));
+          fast = rw (at-fast, bump-same m f) (record {
+            stands = rw more (tick-stands o quiet (omega (arith, fast-short)) (w .fast .stands));
             time = omega arith;
             now = λ e. refl;
-            silent = still-silent P (own P (c .fast .0)) (node r (c .fast .0) .clock .0) (node r (c .fast .0) .slot .0) (node r (c .fast .0) .mode) quiet (f .silent);
+            silent = still-silent P (own P f) (node r f .clock .0) (node r f .slot .0) (node r f .mode) quiet (w .fast .silent);
             limit = omega arith;
           });
-          slow = λ i l n. rw (at-fast, bump-same m (c .fast .0), node-still P r (c .fast .0) i n, bump-other m (c .fast .0) i n) (one i l n);
+          slow = λ i l n. rw (at-fast, bump-same m f, node-still P r f i n, bump-other m f i n) (one i l n);
         }
       where
-        at-fast : node (ticked P (c .fast .0) r) (c .fast .0) ≡ nodeTicked P (own P (c .fast .0)) (node r (c .fast .0))
-        at-fast = node-ticked P r (c .fast .0) (omega (arith, R .fast-below))
+        at-fast : node (ticked P f r) f ≡ nodeTicked P (own P f) (node r f)
+        at-fast = node-ticked P r f (omega (arith, R .fast-below))
 
-        more : P .guard .0 + 1 + suc (m (c .fast .0)) ≡ suc (P .guard .0 + 1 + m (c .fast .0))
+        more : P .guard .0 + 1 + suc (m f) ≡ suc (P .guard .0 + 1 + m f)
         more = omega arith
 
-        due : node r (c .fast .0) .time .0 ≡ P .min .0
+        due : node r f .time .0 ≡ P .min .0
         due = h .due ∙ due-fast P c
 
-        one : (i : ℕ) → i < P .nodes .0 → i ≢ c .fast .0 → Slow P c (suc (m (c .fast .0))) (nodeTicked P (own P (c .fast .0)) (node r (c .fast .0))) i (m i) (node r i)
+        one : (i : ℕ) → i < P .nodes .0 → i ≢ f → Slow P c (suc (m f)) (nodeTicked P (own P f) (node r f)) i (m i) (node r i)
         one i l n =
             let s = w .slow i l n in
             record {
@@ -219,30 +220,30 @@ module _ (P : Plan) (o : Sound P) (c : Parts) (R : Roles P c) where
               alone = s .alone;
             }
 
-    pub wall-slow : (i : ℕ) → i ≢ c .fast .0 → TickMove P c (later r) i → Wall P c (ticked P i r) (bump m i)
+    pub wall-slow : (i : ℕ) → i ≢ f → TickMove P c (later r) i → Wall P c (ticked P i r) (bump m i)
     wall-slow i n h =
         let s = w .slow i (h .below) n in
         let quiet = h .quiet i (h .below) in
         let early = fast-goes-first P c r i (R .fast-below) n h in
         record {
           fast = rw (at-fast, count-fast) (w .fast);
-          slow = rw (at-fast, count-fast) (all-ticked P r room (λ k a l. k ≢ c .fast .0 → Slow P c (m (c .fast .0)) (node r (c .fast .0)) k l a) m i (h .below)
+          slow = rw (at-fast, count-fast) (all-ticked P r room (λ k a l. k ≢ f → Slow P c (m f) (node r f) k l a) m i (h .below)
               (λ n. record {
-                stands = rw more (tick-stands P o (c .p .0) (own P i) (pivot-in-frame P o c R) (P .guard .0 + m i) (node r i) quiet (omega (arith, fast-short, w .fast .limit, behind i (h .below) n)) (s .stands));
+                stands = rw more (tick-stands o quiet (omega (arith, fast-short, w .fast .limit, behind w i (h .below) n)) (s .stands));
                 time = omega arith;
                 wall = omega (arith, s .wall, h .due, due-slow P c i n);
                 first = λ e. absurd (early e);
-                first-about = λ e. clash (isAbout (node r (c .fast .0) .mode)) e (h .quiet (c .fast .0) (R .fast-below));
+                first-about = λ e. clash (isAbout (node r f .mode)) e (h .quiet f (R .fast-below));
                 now = λ e. (omega arith, refl);
                 alone = λ e. s .alone (sending-before P (own P i) (node r i .clock .0) (node r i .slot .0) (node r i .mode) quiet e);
               }) (λ k l d. w .slow k l));
         }
       where
-        at-fast : node (ticked P i r) (c .fast .0) ≡ node r (c .fast .0)
-        at-fast = node-still P r i (c .fast .0) (λ e. n (sym e))
+        at-fast : node (ticked P i r) f ≡ node r f
+        at-fast = node-still P r i f (λ e. n (sym e))
 
-        count-fast : bump m i (c .fast .0) ≡ m (c .fast .0)
-        count-fast = bump-other m i (c .fast .0) (λ e. n (sym e))
+        count-fast : bump m i f ≡ m f
+        count-fast = bump-other m i f (λ e. n (sym e))
 
         more : P .guard .0 + suc (m i) ≡ suc (P .guard .0 + m i)
         more = omega arith

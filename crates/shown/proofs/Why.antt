@@ -1,27 +1,23 @@
 -- Demand 3, second half: the run shown for a failed rule is legal, ends, and ends out of step.
-use Prim.Native.Nat.{ℕ, suc, _+_, _*_, _≤_, _<_}
-use mathlib.Core.Path.{_≡_, refl, sym, ap, _∙_}
-use mathlib.Core.Logic.{_≢_}
-use mathlib.Core.Bool.{Bool, true, false, cond}
-use native.Mathlib.Nat.{mul-le-mul-right, le-trans}
+use Prim.Native.Nat.{ℕ, _+_, _*_, _≤_, _<_}
+use mathlib.Core.Path.{_≡_, refl}
+use mathlib.Core.Bool.{true}
+use native.Mathlib.Nat.{mul-le-mul-right}
 use native.Mathlib.Decide.{ℕ-discrete}
 use native.Mathlib.Omega.{arith}
 use borrow.Author.Tests.{eq-eqb, ne-eqb}
-use lib.Dec.{eqb}
 use lib.ListN.{length}
 use Rattle.plan.specs.declared.Plan.{Plan}
-use Rattle.plan.specs.Sending.{own}
 use Rattle.plan.specs.Tested.{planNumber, Sound}
 use Rattle.plan.proofs.Sound.{sound}
 use Rattle.rules.specs.declared.Rule.{Rule}
-use Rattle.rules.specs.declared.Outcome.{Outcome}
 use Rattle.rules.specs.declared.Outcome.the-variants.{Fails}
 use Rattle.rules.specs.Rules.{verdictOf}
 use Rattle.run.specs.declared.Run.{Run}
 use Rattle.run.specs.declared.Step.{Step}
 use Rattle.run.specs.declared.Step.the-variants.{Delay, TickOf, SendOf}
-use Rattle.run.specs.State.{node, freshNode, freshRun, inRange}
-use Rattle.run.specs.Moves.{moved, delayed, ticked, sent}
+use Rattle.run.specs.State.{freshRun, inRange}
+use Rattle.run.specs.Moves.{moved, ticked}
 use Rattle.run.proofs.Nodes.{node-fresh, room-fresh}
 use Rattle.run.proofs.Ranges.{fresh-range}
 use Rattle.shown.specs.declared.Mark.{Mark}
@@ -29,17 +25,17 @@ use Rattle.shown.specs.declared.Mark.the-variants.{Before, In, After}
 use Rattle.shown.specs.declared.Place.{Place}
 use Rattle.shown.specs.declared.Parts.{Parts}
 use Rattle.shown.specs.Parts.{partsFor}
-use Rattle.shown.specs.Shown.{freshPlace, markAfter, pivotNext, placeAfter, givenBy, givenFor, givenOf, shownSteps}
+use Rattle.shown.specs.Shown.{freshPlace, markAfter, givenBy, givenFor, givenOf, shownSteps}
 use Rattle.shown.specs.Ends.{Ends, ShowsWhy, ticksIn}
 use Rattle.shown.proofs.Play.{OnTime, TickMove, Move}
-use Rattle.shown.proofs.Progress.{Reaches, bump, bump-same, bump-other, counted, Unless, over, on, Kept, left, left-most, reaches}
+use Rattle.shown.proofs.Progress.{Reaches, bump, bump-same, bump-other, counted, Unless, over, on, left, left-most, reaches}
 use Rattle.shown.proofs.Stands.{early}
-use Rattle.shown.proofs.Roles.{Roles, FailsOne, FailsTwo, FailsThree, Failure, one, two, three, pivot-in-frame}
+use Rattle.shown.proofs.Roles.{Roles, Failure, one, two, three, pivot-in-frame}
 use Rattle.shown.proofs.Wall.{later}
-use Rattle.shown.proofs.Later.{Besides, Later, walled, tailed, later-short, later-on-time, later-keeps}
-use Rattle.shown.proofs.Rounds.{earlier, pivotCount, Turned, done, due, InRound, Round, Early, from-0, round-count, pivot-short, early-on-time, early-send, early-tick}
+use Rattle.shown.proofs.Later.{Besides, Later, walled, later-short, later-on-time, later-keeps}
+use Rattle.shown.proofs.Rounds.{earlier, pivotCount, done, Early, from-0, round-count, pivot-short, early-on-time, early-send, early-tick}
 use Rattle.shown.proofs.Dawn.{within, Eve, Dawn, pivot-is, pivot-not, early-delay, eve-begins, eve-on-time, eve-delay, not-fast, eve-tick, eve-send, dawn-on-time, dawn-send, dawn-delay, dawn-slow, dawn-fast}
-use Rattle.shown.proofs.Casting.{Cast, cast}
+use Rattle.shown.proofs.Casting.{cast}
 
 -- what is given out goes by the parts of the failed rule
 pub given-is : (P : Plan) (rule : Rule) → planNumber P ≡ 0 → verdictOf P .outcome ≡ Fails rule → (q : Place) → inRange P (q .run) ≡ true → givenOf P q ≡ givenBy P (partsFor P rule) q
@@ -78,10 +74,10 @@ module _ (P : Plan) (o : Sound P) (c : Parts) (R : Roles P c) (F : Failure P c) 
     early-keeps E (Delay d) h = go (ℕ-discrete (E .number + 1) (pivotCount P c))
       where
         go : Dec (E .number + 1 ≡ pivotCount P c) → Then Before r n (Delay d)
-        go (yes e) = rw (pivot-is P o c R r n room E (d .0) h e) (on (eve (eve-begins P o c R r n room E (d .0) h e)))
-        go (no e) = rw (pivot-not P o c R r n room E (d .0) h e) (on (early-delay P o c R r n room E (d .0) h e))
-    early-keeps E (TickOf i) h = on (early-tick P o c R r n room E (i .0) h)
-    early-keeps E (SendOf i) h = on (early-send P o c R r n room E (i .0) h)
+        go (yes e) = rw (pivot-is o R room E (d .0) h e) (on (eve (eve-begins o R room E (d .0) h e)))
+        go (no e) = rw (pivot-not o R room E (d .0) h e) (on (early-delay o R room E (d .0) h e))
+    early-keeps E (TickOf i) h = on (early-tick o R room E (i .0) h)
+    early-keeps E (SendOf i) h = on (early-send o R room E (i .0) h)
 
     begins : (G : Failure P c) → Besides P c G (λ k. 0)
     begins (one G) = tt
@@ -89,7 +85,7 @@ module _ (P : Plan) (o : Sound P) (c : Parts) (R : Roles P c) (F : Failure P c) 
     begins (three G) = omega (arith, o .guard-tail)
 
     since : Dawn P c r n → Since P c F (ticked P (c .fast .0) r) (bump n (c .fast .0))
-    since D = record { ticks = λ k. 0; state = walled (dawn-fast P o c R r n room D) (begins F); counts = λ k l. go k l (ℕ-discrete k (c .fast .0)) }
+    since D = record { ticks = λ k. 0; state = walled (dawn-fast o R room D) (begins F); counts = λ k l. go k l (ℕ-discrete k (c .fast .0)) }
       where
         go : (k : ℕ) → k < P .nodes .0 → Dec (k ≡ c .fast .0) → bump n (c .fast .0) k ≡ pivotCount P c + 0
         go k l (yes e) = rw (e, bump-same n (c .fast .0)) (omega (arith, D .fast-count))
@@ -97,18 +93,18 @@ module _ (P : Plan) (o : Sound P) (c : Parts) (R : Roles P c) (F : Failure P c) 
 
     pivot-tick : Pivot P c r n → (i : ℕ) → TickMove P c (within r) i → Dec (i ≡ c .fast .0) → Then In r n (TickOf (record { 0 = i }))
     unfolding markAfter
-    pivot-tick (eve E) i h (yes e) = absurd (not-fast P o c R r n room E (rw e at h))
-    pivot-tick (eve E) i h (no d) = rw (ne-eqb i (c .fast .0) d) (on (eve (eve-tick P o c R r n room E i d h)))
+    pivot-tick (eve E) i h (yes e) = absurd (not-fast o R room E (rw e at h))
+    pivot-tick (eve E) i h (no d) = rw (ne-eqb i (c .fast .0) d) (on (eve (eve-tick o R room E i d h)))
     pivot-tick (dawn D) i h (yes e) = rw (eq-eqb i (c .fast .0) e, e) (on (since D))
-    pivot-tick (dawn D) i h (no d) = absurd (dawn-slow P o c R r n room D i d h)
+    pivot-tick (dawn D) i h (no d) = absurd (dawn-slow o R room D i d h)
 
     pivot-keeps : Pivot P c r n → (s : Step) → Move P c (within r) s → Then In r n s
     unfolding markAfter
-    pivot-keeps (eve E) (Delay d) h = absurd (eve-delay P o c R r n room E (d .0) h)
-    pivot-keeps (dawn D) (Delay d) h = absurd (dawn-delay P o c R r n room D (d .0) h)
+    pivot-keeps (eve E) (Delay d) h = absurd (eve-delay o R room E (d .0) h)
+    pivot-keeps (dawn D) (Delay d) h = absurd (dawn-delay o R room D (d .0) h)
     pivot-keeps v (TickOf i) h = pivot-tick v (i .0) h (ℕ-discrete (i .0) (c .fast .0))
-    pivot-keeps (eve E) (SendOf i) h = on (dawn (eve-send P o c R r n room E (i .0) h))
-    pivot-keeps (dawn D) (SendOf i) h = absurd (dawn-send P o c R r n room D (i .0) h)
+    pivot-keeps (eve E) (SendOf i) h = on (dawn (eve-send o R room E (i .0) h))
+    pivot-keeps (dawn D) (SendOf i) h = absurd (dawn-send o R room D (i .0) h)
 
     stays-after : (s : Step) → markAfter P c r After s ≡ After
     unfolding markAfter
@@ -117,7 +113,7 @@ module _ (P : Plan) (o : Sound P) (c : Parts) (R : Roles P c) (F : Failure P c) 
     stays-after (SendOf i) = refl
 
     since-keeps : Since P c F r n → (s : Step) → Move P c (later r) s → Then After r n s
-    since-keeps S s h = rw (stays-after s) (go (later-keeps P o c R r (S .ticks) room F (S .state) s h))
+    since-keeps S s h = rw (stays-after s) (go (later-keeps o R room F (S .state) s h))
       where
         counts : (s : Step) (k : ℕ) → k < P .nodes .0 → counted s n k ≡ pivotCount P c + counted s (S .ticks) k
         counts (Delay d) k l = S .counts k l
@@ -138,15 +134,15 @@ module _ (P : Plan) (o : Sound P) (c : Parts) (R : Roles P c) (F : Failure P c) 
     phase-keeps After v = since-keeps v
 
     phase-on-time : (k : Mark) → Phase P c F k r n → OnTime P c (record { run = r; mark = k })
-    phase-on-time Before E = early-on-time P o c R r n room E
-    phase-on-time In (eve E) = eve-on-time P o c R r n room E
-    phase-on-time In (dawn D) = dawn-on-time P o c R r n room D
-    phase-on-time After S = later-on-time P o c R r (S .ticks) room F (S .state)
+    phase-on-time Before E = early-on-time o R room E
+    phase-on-time In (eve E) = eve-on-time o R room E
+    phase-on-time In (dawn D) = dawn-on-time o R room D
+    phase-on-time After S = later-on-time o R room F (S .state)
 
     -- no node comes to two frames' ticks
     phase-short : (k : Mark) → Phase P c F k r n → (i : ℕ) → i < P .nodes .0 → n i < bound
     phase-short k v i l =
-        let frame : c .p .0 * P .ticks .0 ≤ P .frame .0 * P .ticks .0 = mul-le-mul-right (P .ticks .0) (omega (arith, pivot-in-frame P o c R)) in
+        let frame : c .p .0 * P .ticks .0 ≤ P .frame .0 * P .ticks .0 = mul-le-mul-right (P .ticks .0) (omega (arith, pivot-in-frame o R)) in
         go k v frame
       where
         full : Dec (i ≡ c .fast .0) → Dawn P c r n → n i ≤ pivotCount P c
@@ -154,10 +150,10 @@ module _ (P : Plan) (o : Sound P) (c : Parts) (R : Roles P c) (F : Failure P c) 
         full (no d) D = omega (arith, D .counts i l d)
 
         go : (k : Mark) → Phase P c F k r n → c .p .0 * P .ticks .0 ≤ P .frame .0 * P .ticks .0 → n i < bound
-        go Before E q = omega (arith, round-count P o (E .number) (n i) (node r i .time .0) (E .round i l .turned), E .before, pivot-short P o c R)
-        go In (eve E) q = omega (arith, round-count P o (pivotCount P c) (n i) (node r i .time .0) (E .round i l .turned), pivot-short P o c R)
-        go In (dawn D) q = omega (arith, full (ℕ-discrete i (c .fast .0)) D, pivot-short P o c R)
-        go After S q = omega (arith, S .counts i l, later-short P o c R r (S .ticks) room F (S .state) i l)
+        go Before E q = omega (arith, round-count o (E .round i l .turned), E .before, pivot-short o R)
+        go In (eve E) q = omega (arith, round-count o (E .round i l .turned), pivot-short o R)
+        go In (dawn D) q = omega (arith, full (ℕ-discrete i (c .fast .0)) D, pivot-short o R)
+        go After S q = omega (arith, S .counts i l, later-short o R room F (S .state) i l)
 
   -- a fresh run is in round 0, of which everybody had the tick
   fresh-early : Early P c freshRun (λ k. 0)
@@ -167,6 +163,7 @@ module _ (P : Plan) (o : Sound P) (c : Parts) (R : Roles P c) (F : Failure P c) 
         before = omega (arith, o .guard-low);
         round = λ i l. rw (node-fresh i (omega (arith, o .nodes-high))) (record {
           stands = record {
+            base-in = omega (arith, o .frame-low);
             clock-in = omega (arith, o .ticks-low);
             slot-in = omega (arith, o .frame-low);
             counts = rw (from-0 (P .frame .0) 0 (omega (arith, o .frame-low))) (omega arith);
