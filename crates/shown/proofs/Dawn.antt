@@ -10,27 +10,29 @@ use borrow.Author.Tests.{eqb-true, eq-eqb, ne-eqb, lt-ltb}
 use lib.Dec.{eqb, ltb}
 use lib.ListN.{length}
 use Rattle.laws.proofs.Bools.{clash, and-true-left, and-true-right, or-true-right, true-not-false}
+use Rattle.laws.specs.Ring.{distance}
 use Rattle.laws.proofs.Ring.{distance-self}
 use Rattle.plan.specs.declared.Plan.{Plan}
 use Rattle.plan.specs.Sending.{own}
 use Rattle.plan.specs.Tested.{Sound}
+use Rattle.plan.proofs.Sound.{own-in-frame}
 use Rattle.run.specs.declared.Mode.the-variants.{Waiting}
 use Rattle.run.specs.declared.NodeState.{NodeState}
 use Rattle.run.specs.declared.Run.{Run}
 use Rattle.run.specs.State.{node, isAbout, isSending, isWaiting}
-use Rattle.run.specs.Moves.{nodeTicked, nodeSent, nodeHearing, delayed, ticked, sent}
+use Rattle.run.specs.Moves.{nodeSent, nodeHearing, delayed, ticked, sent}
 use Rattle.run.proofs.Outcomes.{clock-heard, mode-elsewhere, slot-stays}
 use Rattle.run.proofs.Nodes.{node-delayed, node-ticked, node-still, node-sender, node-hearing}
 use Rattle.shown.specs.declared.Mark.the-variants.{In}
 use Rattle.shown.specs.declared.Place.{Place}
 use Rattle.shown.specs.declared.Parts.{Parts}
-use Rattle.shown.specs.Shown.{dueTime, goesFirst, goesSecond, pivotNext}
-use Rattle.shown.proofs.Play.{OnTime, SendMove, TickMove, DelayMove, Turn, goes-first, goes-second, goes-third}
+use Rattle.shown.specs.Shown.{turns, dueTime, goesFirst, goesSecond, pivotNext}
+use Rattle.shown.proofs.Play.{not-so, OnTime, SendMove, TickMove, DelayMove, Turn, goes-first, goes-second, goes-third}
 use Rattle.shown.proofs.Progress.{bump, bump-same, bump-other}
-use Rattle.shown.proofs.Stands.{Stands, away, tick-stands, at-place, about-at, sending-at, waits-away, waits-early, busy, send-stands, hear-stands}
+use Rattle.shown.proofs.Stands.{busy-at-own, Stands, away, tick-stands, at-place, about-at, sending-at, waits-away, waits-early, send-stands, hear-stands}
 use Rattle.shown.proofs.Roles.{Roles, farOf, pivot-in-frame, far-away, sender-not-fast}
 use Rattle.shown.proofs.Wall.{Slow, Wall, still-silent}
-use Rattle.shown.proofs.Rounds.{earlier, pivotCount, Turned, done, due, Round, Early, at-count, from-0, round-time, due-lacks, early-done, round-tick, pivot-short, all-done, round-on}
+use Rattle.shown.proofs.Rounds.{about-ticked, earlier, pivotCount, Turned, done, due, Round, Early, at-count, from-0, round-time, due-lacks, early-done, round-tick, pivot-short, all-done, round-on}
 
 -- the place in the pivot with the run r
 abbrev pub within : Run → Place
@@ -92,7 +94,7 @@ module _ {P : Plan} {c : Parts} (o : Sound P) (R : Roles P c) where
         rw (sender-waits e, eq-eqb (node r a .slot .0) (c .p .0) (sender-at e .0), eq-eqb (node r a .clock .0 + 1) (P .guard .0) (omega (arith, sender-at e .1, o .guard-low)))
 
     pub pivot-not : E .number + 1 ≢ pivotCount P c → pivotNext P c r ≡ false
-    pivot-not e = go (pivotNext P c r) refl
+    pivot-not e = not-so (pivotNext P c r) next
       where
         waiting : Bool
         waiting = isWaiting (node r a .mode)
@@ -103,14 +105,12 @@ module _ {P : Plan} {c : Parts} (o : Sound P) (R : Roles P c) where
         now : Bool
         now = eqb (node r a .clock .0 + 1) (P .guard .0)
 
-        go : (b : Bool) → pivotNext P c r ≡ b → pivotNext P c r ≡ false
-        go true t =
-            let both = and-true-left (waiting && here) now t in
-            let s = eqb-true (node r a .slot .0) (c .p .0) (and-true-right waiting here both) in
+        next : pivotNext P c r ≡ true → ⊥
+        next t =
+            let s = eqb-true (node r a .slot .0) (c .p .0) (and-true-right waiting here (and-true-left (waiting && here) now t)) in
             let k = eqb-true (node r a .clock .0 + 1) (P .guard .0) (and-true-right (waiting && here) now t) in
             let z = rw (s, from-0 (P .frame .0) (c .p .0) (pivot-in-frame o R)) at (E .round a (R .sender-below) .stands .counts) in
-            absurd (e (omega (arith, sender-count)))
-        go false t = t
+            e (omega (arith, sender-count))
 
     still-quiet : (i : ℕ) → i < P .nodes .0 → isAbout (node (delayed P d r) i .mode) ≡ true → ⊥
     still-quiet i l q = clash (isAbout (node r i .mode)) (sym (ap (λ (x : NodeState). isAbout (x .mode)) (node-delayed P r d i l (omega arith))) ∙ q) (h .quiet i l)
@@ -195,12 +195,10 @@ module _ {P : Plan} {c : Parts} (o : Sound P) (R : Roles P c) where
     -- the fast node does not tick yet: the sender of p would have had its tick and be sending
     pub not-fast : TickMove P c (within r) f → ⊥
     not-fast h =
-        let late = fast-goes-last r f h refl a (R .sender-below) (sender-not-fast o R) in
+        let late = fast-goes-last r f h refl a (R .sender-below) (sender-not-fast R) in
         let had = early-done o (E .round a (R .sender-below) .turned) late .0 in
-        let at = at-pivot a (R .sender-below) had in
-        clash (isSending (node r a .mode))
-        (busy o (E .round a (R .sender-below) .stands) (at .0 ∙ sym (R .sender-own)) (omega (arith, at .1)) (omega (arith, at .1, o .guard-tail)) (h .quiet a (R .sender-below)))
-        (E .silent)
+        let there : n a ≡ distance (P .frame .0) 0 (own P a) * P .ticks .0 + P .guard .0 = rw (R .sender-own, from-0 (P .frame .0) (c .p .0) (pivot-in-frame o R)) had in
+        clash (isSending (node r a .mode)) (busy-at-own o (E .round a (R .sender-below) .stands) (own-in-frame P o a (R .sender-below)) there (h .quiet a (R .sender-below))) (E .silent)
 
     pub eve-tick : (i : ℕ) → i ≢ f → TickMove P c (within r) i → Eve P c (ticked P i r) (bump n i)
     eve-tick i not-f h =
@@ -208,7 +206,7 @@ module _ {P : Plan} {c : Parts} (o : Sound P) (R : Roles P c) where
           round = round-tick o (pivotCount P c) r n room (E .round) (pivot-short o R) i (h .below) (h .quiet) (due-now r i h);
           fast = rw (bump-other n i f (λ e. not-f (sym e))) (E .fast);
           silent = silent (ℕ-discrete a i);
-          together = λ k l e j hj. together k l (ℕ-discrete k i) e j hj (ℕ-discrete j i);
+          together = λ k l e j hj. together (about-ticked P r i k (omega (arith, h .below)) (h .quiet k l) e .1) j hj (ℕ-discrete j i);
         }
       where
         silent : Dec (a ≡ i) → isSending (node (ticked P i r) a .mode) ≡ false
@@ -219,7 +217,7 @@ module _ {P : Plan} {c : Parts} (o : Sound P) (R : Roles P c) where
         lacks = due-lacks o (E .round i (h .below) .turned) (due-now r i h)
 
         -- who is about to send after the pivot's count sends in p
-        is-sender : isAbout (nodeTicked P (own P i) (node r i) .mode) ≡ true → i ≡ a
+        is-sender : turns P r i ≡ true → i ≡ a
         is-sender e =
             let t = tick-stands o (h .quiet i (h .below)) (omega (arith, lacks, pivot-short o R)) (E .round i (h .below) .stands) in
             o .own-apart i a (h .below) (R .sender-below)
@@ -227,13 +225,10 @@ module _ {P : Plan} {c : Parts} (o : Sound P) (R : Roles P c) where
             ∙ at-count o t (c .p .0) (P .guard .0) (pivot-in-frame o R) (omega (arith, o .guard-tail)) (omega (arith, lacks)) .0
             ∙ sym (R .sender-own))
 
-        together : (k : ℕ) → k < P .nodes .0 → Dec (k ≡ i) → isAbout (node (ticked P i r) k .mode) ≡ true → (j : ℕ) → j < P .nodes .0 → Dec (j ≡ i) → j ≢ f → bump n i j ≡ pivotCount P c
-        together k l (no d) e j hj q n′ = clash (isAbout (node r k .mode)) (sym (ap (λ (x : NodeState). isAbout (x .mode)) (node-still P r i k d)) ∙ e) (h .quiet k l)
-        together k l (yes d) e j hj (yes q) n′ = rw (q, bump-same n i) (omega (arith, lacks))
-        together k l (yes d) e j hj (no q) n′ =
-            let turned = sym (ap (λ (x : NodeState). isAbout (x .mode)) (ap (node (ticked P i r)) d ∙ node-ticked P r i (omega (arith, h .below)))) ∙ e in
-            let s = is-sender turned in
-            rw (bump-other n i j q) (early-done o (E .round j hj .turned) (sender-goes-second r i h s j hj n′ (λ y. q (y ∙ sym s))) .0)
+        together : turns P r i ≡ true → (j : ℕ) → j < P .nodes .0 → Dec (j ≡ i) → j ≢ f → bump n i j ≡ pivotCount P c
+        together e j l (yes q) d = rw (q, bump-same n i) (omega (arith, lacks))
+        together e j l (no q) d =
+            rw (bump-other n i j q) (early-done o (E .round j l .turned) (sender-goes-second r i h (is-sender e) j l d (λ y. q (y ∙ sym (is-sender e)))) .0)
 
     -- the message of the sender of p
 

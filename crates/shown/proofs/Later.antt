@@ -2,12 +2,12 @@
 use Prim.Native.Nat.{ℕ, _+_, _*_, _-_, _≤_, _<_}
 use mathlib.Core.Path.{_≡_, refl, sym, ap, _∙_}
 use mathlib.Core.Logic.{_≢_}
-use mathlib.Core.Bool.{Bool, true, false}
+use mathlib.Core.Bool.{true, false}
 use native.Mathlib.Nat.{lt-of-mul-lt-mul-right, mul-le-mul-right}
 use native.Mathlib.Decide.{ℕ-discrete, decLe}
 use native.Mathlib.Omega.{arith}
 use lib.ListN.{length}
-use Rattle.laws.proofs.Ring.{distance-below, distance-self}
+use Rattle.laws.proofs.Ring.{distance-self}
 use Rattle.plan.specs.declared.Plan.{Plan}
 use Rattle.plan.specs.Sending.{own}
 use Rattle.plan.specs.Tested.{Sound}
@@ -19,10 +19,10 @@ use Rattle.run.specs.State.{node, isAbout, outOfStep}
 use Rattle.run.specs.Moves.{nodeHearing, moved, ticked, sent}
 use Rattle.run.proofs.Nodes.{node-still, node-sender, node-hearing}
 use Rattle.shown.specs.declared.Parts.{Parts}
-use Rattle.shown.proofs.Play.{OnTime, SendMove, TickMove, Move}
+use Rattle.shown.proofs.Play.{not-so, OnTime, SendMove, TickMove, Move}
 use Rattle.shown.proofs.Progress.{bump, bump-same, bump-other, all-sent, counted, Unless, over, on}
-use Rattle.shown.proofs.Stands.{at-place, before-slot, past-slot, about-at, about-count, waits-away, busy}
-use Rattle.shown.proofs.Roles.{Roles, farOf, FailsOne, FailsTwo, FailsThree, Failure, one, two, three, pivot-in-frame, far-away, far-same, sender-not-fast, out-is, send-apart}
+use Rattle.shown.proofs.Stands.{busy-at-own, at-place, before-slot, past-slot, about-at, about-count, waits-away, busy}
+use Rattle.shown.proofs.Roles.{far-fits, Roles, farOf, FailsOne, FailsTwo, FailsThree, Failure, one, two, three, pivot-in-frame, far-away, far-same, sender-not-fast, out-is, send-apart}
 use Rattle.shown.proofs.Wall.{later, due-fast, Slow, Wall, slow-about, behind, short, wall-on-time, wall-delay, wall-fast, wall-slow}
 use Rattle.shown.proofs.Tail.{Beside, still-due, rests, Tail, tail-short, tail-on-time, tail-send, tail-out, tail-slow, tail-delay}
 
@@ -35,7 +35,7 @@ Besides P c (three F) m = P .guard .0 + 1 + m (c .fast .0) < P .ticks .0
 -- after the pivot
 pub data Later (P : Plan) (c : Parts) (F : Failure P c) (r : Run) (m : ℕ → ℕ) : Type 0 where
   walled : Wall P c r m → Besides P c F m → Later P c F r m
-  tailed : Tail P c r m → Later P c F r m
+  tailed : {b : ℕ} → FailsTwo P c b → Tail P c b r m → Later P c F r m
 
 module _ {P : Plan} {c : Parts} (o : Sound P) (R : Roles P c) where
   abbrev f : ℕ
@@ -68,10 +68,10 @@ module _ {P : Plan} {c : Parts} (o : Sound P) (R : Roles P c) where
           go : Dec (i ≡ f) → outOfStep P (sent P i r) ≡ true
           go (yes e) =
               let about : isAbout (node r f .mode) ≡ true = rw e at (h .about) in
-              let s = slow (c .sender .0) (R .sender-below) (sender-not-fast o R) in
+              let s = slow (c .sender .0) (R .sender-below) (sender-not-fast R) in
               let z : (1 + m f) * P .min .0 ≡ farOf P c f * P .ticks .0 * P .min .0 = ap (λ (n : ℕ). n * P .min .0) (fast-count about) in
               let u : P .guard .0 + m (c .sender .0) < farOf P c f * P .ticks .0 = lt-of-mul-lt-mul-right (P .max .0) (omega (arith, s .wall, s .first-about about, w .fast .now about, F .rule)) in
-              rw e (fast-sends (c .sender .0) (R .sender-below) (sender-not-fast o R) about u)
+              rw e (fast-sends (c .sender .0) (R .sender-below) (sender-not-fast R) about u)
           go (no n) =
               let a = slow-about o R (slow i (h .below) n) (h .about) in
               let z : farOf P c f * P .ticks .0 ≤ farOf P c i * P .ticks .0 = mul-le-mul-right (P .ticks .0) (F .near i (h .below) (a .0)) in
@@ -97,7 +97,7 @@ module _ {P : Plan} {c : Parts} (o : Sound P) (R : Roles P c) where
       three-out : TickMove P c (later r) f → P .guard .0 + 2 + m f ≡ P .ticks .0 → outOfStep P (ticked P f r) ≡ true
       three-out h e =
           let a = c .sender .0 in
-          let n = sender-not-fast o R in
+          let n = sender-not-fast R in
           let s = slow a (R .sender-below) n in
           let due : node r f .time .0 ≡ P .min .0 = h .due ∙ due-fast P c in
           let z : (P .guard .0 + 2 + m f) * P .min .0 ≡ P .ticks .0 * P .min .0 = ap (λ (n : ℕ). n * P .min .0) e in
@@ -113,11 +113,6 @@ module _ {P : Plan} {c : Parts} (o : Sound P) (R : Roles P c) where
     -- rule 2, while node b has not passed its own slot's beginning
 
     module _ (b : ℕ) (F : FailsTwo P c b) (inside : m b ≤ farOf P c b * P .ticks .0) where
-      two-short : (P .guard .0) + (farOf P c b * P .ticks .0) < P .frame .0 * P .ticks .0
-      two-short =
-          let z : (farOf P c b + 1) * P .ticks .0 ≤ P .frame .0 * P .ticks .0 = mul-le-mul-right (P .ticks .0) (omega (arith, distance-below (P .frame .0) (c .p .0) (own P b) (omega (arith, o .frame-low)))) in
-          omega (arith, o .guard-tail)
-
       -- a node that sends in neither p nor b's slot reaches its own a slot later than b
       farther : (i : ℕ) → i < P .nodes .0 → own P i ≢ c .p .0 → i ≢ b → (farOf P c b + 1) * P .ticks .0 ≤ farOf P c i * P .ticks .0
       farther i l a n =
@@ -137,22 +132,10 @@ module _ {P : Plan} {c : Parts} (o : Sound P) (R : Roles P c) where
           let a = slow-about o R (slow i l n) e in
           omega (arith, a .1, farther i l (a .0) d, abreast i l n, o .ticks-low)
 
-      not-third : (i : ℕ) → i < P .nodes .0 → i ≢ f → i ≢ b → isAbout (node r i .mode) ≡ false
-      not-third i l n d = go (isAbout (node r i .mode)) refl
-        where
-          go : (x : Bool) → isAbout (node r i .mode) ≡ x → isAbout (node r i .mode) ≡ false
-          go true e = absurd (no-third i l n d e)
-          go false e = e
-
       -- b about to send, the fast node in b's slot at its last clock
-      begins : SendMove P c (later r) b → P .guard .0 + 2 + m f ≡ (farOf P c b + 1) * P .ticks .0 → Tail P c (sent P b r) m
+      begins : SendMove P c (later r) b → P .guard .0 + 2 + m f ≡ (farOf P c b + 1) * P .ticks .0 → Tail P c b (sent P b r) m
       begins h e =
           record {
-            by = b;
-            below = F .below;
-            other = F .other;
-            slot = own P b;
-            slot-in = own-in-frame P o b (F .below);
             speaks = rw (node-sender P r b (F .below) (omega (arith, F .below))) (record { sends = refl; slot = about-at o (t .stands) (h .about) .0 });
             fast = rw at-fast (record {
               time = w .fast .time;
@@ -179,7 +162,7 @@ module _ {P : Plan} {c : Parts} (o : Sound P) (R : Roles P c) where
           beside i l d n (yes q) =
               let s = slow i l n in
               let z : m i * P .max .0 ≡ m b * P .max .0 = ap (λ (n : ℕ). n * P .max .0) q in
-              rests (omega (arith, s .wall, t .wall, t .now (h .about) .1, o .min-max)) (not-third i l n d) (short o R w i l)
+              rests (omega (arith, s .wall, t .wall, t .now (h .about) .1, o .min-max)) (not-so (isAbout (node r i .mode)) (no-third i l n d)) (short o R w i l)
           beside i l d n (no q) =
               let s = slow i l n in
               let zero : node r b .time .0 ≡ 0 = t .now (h .about) .1 in
@@ -189,17 +172,17 @@ module _ {P : Plan} {c : Parts} (o : Sound P) (R : Roles P c) where
               let there = slow-about o R t (h .about) .1 in
               let a = at-place o (s .stands) (own P b) (P .guard .0 - 1) (own-in-frame P o b (F .below)) (omega (arith, o .guard-tail)) (omega (arith, o .guard-low)) in
               let away : node r i .slot .0 ≢ own P i = λ y. d (o .own-apart i b l (F .below) (sym y ∙ a .0)) in
-              still-due d (omega (arith, s .wall, t .wall)) (waits-away o (s .stands) away) away (omega (arith, two-short))
+              still-due d (omega (arith, s .wall, t .wall)) (waits-away o (s .stands) away) away (omega (arith, far-fits o R b))
 
-      two-send : (i : ℕ) → SendMove P c (later r) i → Unless P (later (sent P i r)) (Tail P c (sent P i r) m)
+      two-send : (i : ℕ) → SendMove P c (later r) i → Unless P (later (sent P i r)) (Tail P c b (sent P i r) m)
       two-send i h = go (ℕ-discrete i f) (ℕ-discrete i b)
         where
-          go : Dec (i ≡ f) → Dec (i ≡ b) → Unless P (later (sent P i r)) (Tail P c (sent P i r) m)
+          go : Dec (i ≡ f) → Dec (i ≡ b) → Unless P (later (sent P i r)) (Tail P c b (sent P i r) m)
           go (yes e) d = over (rw e (fast-sends b (F .below) (F .other) (rw e at (h .about)) (omega (arith, farther f (R .fast-below) (R .fast-away) (λ q. F .other (sym q)), o .guard-tail))))
           go (no n) (no d) = absurd (no-third i (h .below) n d (h .about))
           go (no n) (yes d) = rw d (b-sends (rw d at h))
             where
-              b-sends : SendMove P c (later r) b → Unless P (later (sent P b r)) (Tail P c (sent P b r) m)
+              b-sends : SendMove P c (later r) b → Unless P (later (sent P b r)) (Tail P c b (sent P b r) m)
               b-sends h =
                   let t = slow b (F .below) (F .other) in
                   let there = slow-about o R t (h .about) .1 in
@@ -209,7 +192,7 @@ module _ {P : Plan} {c : Parts} (o : Sound P) (R : Roles P c) where
                   let late : (farOf P c b + 1) * P .ticks .0 < P .guard .0 + 3 + m f = lt-of-mul-lt-mul-right (P .min .0) (omega (arith, t .wall, w .fast .time, F .rule)) in
                   ends (decLe ((farOf P c b + 1) * P .ticks .0) (P .guard .0 + 1 + m f)) late
                 where
-                  ends : Dec ((farOf P c b + 1) * P .ticks .0 ≤ P .guard .0 + 1 + m f) → (farOf P c b + 1) * P .ticks .0 < P .guard .0 + 3 + m f → Unless P (later (sent P b r)) (Tail P c (sent P b r) m)
+                  ends : Dec ((farOf P c b + 1) * P .ticks .0 ≤ P .guard .0 + 1 + m f) → (farOf P c b + 1) * P .ticks .0 < P .guard .0 + 3 + m f → Unless P (later (sent P b r)) (Tail P c b (sent P b r) m)
                   ends (yes l) late =
                       over (send-apart P r room b f (F .below) (R .fast-below) (λ q. F .other (sym q))
                       (rw (about-at o (slow b (F .below) (F .other) .stands) (h .about) .0)
@@ -223,8 +206,7 @@ module _ {P : Plan} {c : Parts} (o : Sound P) (R : Roles P c) where
           go : Dec (m b ≡ farOf P c b * P .ticks .0) → m b < farOf P c b * P .ticks .0
           go (yes q) =
               let t = slow b (F .below) (F .other) in
-              let a = at-place o (t .stands) (own P b) (P .guard .0) (own-in-frame P o b (F .below)) (omega (arith, o .guard-tail)) (omega arith) in
-              absurd (F .away (t .alone (busy o (t .stands) (a .0) (omega (arith, a .1)) (omega (arith, a .1, o .guard-tail)) e)))
+              absurd (F .away (t .alone (busy-at-own o (t .stands) (own-in-frame P o b (F .below)) (omega arith) e)))
           go (no q) = omega arith
 
   -- every rule
@@ -232,19 +214,19 @@ module _ {P : Plan} {c : Parts} (o : Sound P) (R : Roles P c) where
   module _ {r : Run} {m : ℕ → ℕ} (room : P .nodes .0 ≤ length (r .nodes)) where
     pub later-short : (F : Failure P c) → Later P c F r m → (i : ℕ) → i < P .nodes .0 → P .guard .0 + m i < P .frame .0 * P .ticks .0
     later-short F (walled w b) = short o R w
-    later-short F (tailed t) = tail-short o R room t
+    later-short F (tailed G t) = tail-short o R G room t
 
     pub later-on-time : (F : Failure P c) → Later P c F r m → OnTime P c (later r)
     later-on-time F (walled w b) = wall-on-time o R w
-    later-on-time F (tailed t) = tail-on-time o R room t
+    later-on-time F (tailed G t) = tail-on-time o R G room t
 
     wall-send : (F : Failure P c) → Wall P c r m → Besides P c F m → (i : ℕ) → SendMove P c (later r) i → Unless P (later (sent P i r)) (Later P c F (sent P i r) m)
     wall-send (one F) w b i h = over (one-send room w F i h)
     wall-send (two k F) w b i h = go (two-send room w k F b i h)
       where
-        go : Unless P (later (sent P i r)) (Tail P c (sent P i r) m) → Unless P (later (sent P i r)) (Later P c (two k F) (sent P i r) m)
+        go : Unless P (later (sent P i r)) (Tail P c k (sent P i r) m) → Unless P (later (sent P i r)) (Later P c (two k F) (sent P i r) m)
         go (over e) = over e
-        go (on t) = on (tailed t)
+        go (on t) = on (tailed F t)
     wall-send (three F) w b i h = absurd (three-send room w F b i h)
 
     wall-tick-fast : (F : Failure P c) → Wall P c r m → Besides P c F m → TickMove P c (later r) f → Unless P (later (ticked P f r)) (Later P c F (ticked P f r) (bump m f))
@@ -271,12 +253,12 @@ module _ {P : Plan} {c : Parts} (o : Sound P) (R : Roles P c) where
         go : Later P c F r m → Dec (i ≡ f) → Unless P (later (ticked P i r)) (Later P c F (ticked P i r) (bump m i))
         go (walled w b) (yes e) = rw e (wall-tick-fast F w b (rw e at h))
         go (walled w b) (no n) = on (walled (wall-slow o R room w i n h) (besides-slow F w b i n h))
-        go (tailed t) (yes e) = over (rw e (tail-out o R room t))
-        go (tailed t) (no n) = on (tailed (tail-slow o R room t i n h))
+        go (tailed G t) (yes e) = over (rw e (tail-out o R G room t))
+        go (tailed G t) (no n) = on (tailed G (tail-slow o R G room t i n h))
 
     pub later-keeps : (F : Failure P c) → Later P c F r m → (s : Step) → Move P c (later r) s → Unless P (later (moved P r s)) (Later P c F (moved P r s) (counted s m))
     later-keeps F (walled w b) (Delay d) h = on (walled (wall-delay o R room w (d .0) h) b)
-    later-keeps F (tailed t) (Delay d) h = on (tailed (tail-delay o R room t (d .0) h))
+    later-keeps F (tailed G t) (Delay d) h = on (tailed G (tail-delay o R G room t (d .0) h))
     later-keeps F v (TickOf i) h = later-tick F v (i .0) h
     later-keeps F (walled w b) (SendOf i) h = wall-send F w b (i .0) h
-    later-keeps F (tailed t) (SendOf i) h = absurd (tail-send o R room t (i .0) h)
+    later-keeps F (tailed G t) (SendOf i) h = absurd (tail-send o R G room t (i .0) h)

@@ -1,6 +1,6 @@
 -- Which step of the shown run is next, and why: where no time is past due, it is legal.
 use Prim.Native.Nat.{ℕ, _+_, _-_, _≤_, _<_}
-use mathlib.Core.Path.{_≡_}
+use mathlib.Core.Path.{_≡_, refl}
 use mathlib.Core.Bool.{Bool, true, false, _&&_}
 use native.Mathlib.Omega.{arith}
 use borrow.Author.Tests.{ltb-true, ltb-false, eqb-true, eqb-false, le-ltb, eq-eqb}
@@ -19,6 +19,11 @@ use Rattle.shown.specs.declared.Mark.the-variants.{Before, In, After}
 use Rattle.shown.specs.declared.Place.{Place}
 use Rattle.shown.specs.declared.Parts.{Parts}
 use Rattle.shown.specs.Shown.{dueTime, isDue, pastDue, goesFirst, goesSecond, lowestAbout, lowestFirst, lowestSecond, lowestDue, timeToDue, nextStep}
+
+-- a truth value that cannot be true is false
+pub not-so : (b : Bool) → (b ≡ true → ⊥) → b ≡ false
+not-so true h = absurd (h refl)
+not-so false h = refl
 
 -- the first number below n that passes, by whether it is below n
 pub first-is : (n : ℕ) (f : ℕ → Bool) → ltb (firstBelow n f) n ≡ true → f (firstBelow n f) ≡ true

@@ -11,7 +11,7 @@ use Rattle.laws.specs.Below.{anyBelow}
 use Rattle.laws.specs.Ring.{distance}
 use Rattle.laws.proofs.Bools.{and-both}
 use Rattle.laws.proofs.Belows.{any-found}
-use Rattle.laws.proofs.Ring.{distance-same, distance-self}
+use Rattle.laws.proofs.Ring.{distance-same, distance-self, distance-below}
 use Rattle.plan.specs.declared.Plan.{Plan}
 use Rattle.plan.specs.Sending.{own}
 use Rattle.plan.specs.Tested.{Sound}
@@ -21,6 +21,7 @@ use Rattle.run.specs.Moves.{nodeTicked, ticked, sent}
 use Rattle.run.proofs.Nodes.{node-ticked, node-still, node-sender, node-hearing}
 use Rattle.run.specs.State.{node, isSending, elsewhere, sendsApart, outOfStep}
 use Rattle.shown.specs.declared.Parts.{Parts}
+use Rattle.shown.proofs.Stands.{slot-fits}
 
 -- the sender of p sends in p, and the fast node doesn't
 pub record Roles (P : Plan) (c : Parts) : Type 0 where
@@ -74,8 +75,12 @@ module _ {P : Plan} {c : Parts} (o : Sound P) (R : Roles P c) where
   pub far-same : (i j : ℕ) → i < P .nodes .0 → j < P .nodes .0 → farOf P c i ≡ farOf P c j → i ≡ j
   far-same i j hi hj e = o .own-apart i j hi hj (distance-same (P .frame .0) (c .p .0) (own P i) (own P j) pivot-in-frame (own-in-frame P o i hi) (own-in-frame P o j hj) e)
 
-  pub sender-not-fast : c .sender .0 ≢ c .fast .0
-  sender-not-fast e = R .fast-away (rw e at (R .sender-own))
+  -- the ticks to g of its own slot are fewer than a frame's
+  pub far-fits : (i : ℕ) → farOf P c i * P .ticks .0 + P .guard .0 < P .frame .0 * P .ticks .0
+  far-fits i = slot-fits o (farOf P c i) (distance-below (P .frame .0) (c .p .0) (own P i) (omega (arith, o .frame-low)))
+
+pub sender-not-fast : {P : Plan} {c : Parts} → Roles P c → c .sender .0 ≢ c .fast .0
+sender-not-fast R e = R .fast-away (rw e at (R .sender-own))
 
 -- a node that sends and a node in another slot: out of step
 pub out-is : (P : Plan) (r : Run) (i j : ℕ) → i < P .nodes .0 → j < P .nodes .0 → isSending (node r i .mode) ≡ true → node r j .slot .0 ≢ node r i .slot .0 → outOfStep P r ≡ true

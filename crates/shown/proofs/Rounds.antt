@@ -2,8 +2,7 @@
 use Prim.Native.Nat.{ℕ, suc, _+_, _*_, _≤_, _<_}
 use mathlib.Core.Path.{_≡_, refl, sym, ap, _∙_}
 use mathlib.Core.Logic.{_≢_}
-use mathlib.Core.Bool.{true, not}
-use native.Mathlib.Nat.{mul-le-mul-right}
+use mathlib.Core.Bool.{true, false, not}
 use native.Mathlib.Decide.{ℕ-discrete}
 use native.Mathlib.Omega.{arith}
 use lib.ListN.{length}
@@ -25,7 +24,7 @@ use Rattle.shown.specs.declared.Parts.{Parts}
 use Rattle.shown.specs.Shown.{dueTime, turns, goesFirst}
 use Rattle.shown.proofs.Play.{OnTime, Quiet, SendMove, TickMove, DelayMove, Turn, goes-first, goes-second, goes-third}
 use Rattle.shown.proofs.Progress.{bump, bump-same, bump-other, all-ticked, all-delayed, all-sent}
-use Rattle.shown.proofs.Stands.{Stands, same-digits, tick-stands, at-place, about-at, about-count, delay-stands, send-stands, hear-stands}
+use Rattle.shown.proofs.Stands.{slot-fits, Stands, same-digits, tick-stands, at-place, about-at, about-count, delay-stands, send-stands, hear-stands}
 use Rattle.shown.proofs.Roles.{Roles, pivot-in-frame}
 
 -- a node in round T with v ticks and the time x
@@ -108,6 +107,14 @@ module _ {P : Plan} (o : Sound P) where
           turned = due (omega (arith, h i l .0)) (omega (arith, h i l .1));
         })
 
+-- where nobody was about to send, only the node that ticked can be
+pub about-ticked : (P : Plan) (r : Run) (i k : ℕ) → i < length (r .nodes) → isAbout (node r k .mode) ≡ false → isAbout (node (ticked P i r) k .mode) ≡ true → (k ≡ i) × (turns P r i ≡ true)
+about-ticked P r i k l q e = go (ℕ-discrete k i)
+  where
+    go : Dec (k ≡ i) → (k ≡ i) × (turns P r i ≡ true)
+    go (yes d) = (d, sym (ap (λ (a : NodeState). isAbout (a .mode)) (ap (node (ticked P i r)) d ∙ node-ticked P r i l)) ∙ e)
+    go (no d) = clash (isAbout (node r k .mode)) (sym (ap (λ (a : NodeState). isAbout (a .mode)) (node-still P r i k d)) ∙ e) q
+
 -- before the pivot all are due at min
 pub due-before : (P : Plan) (c : Parts) (i : ℕ) → dueTime P c Before i ≡ P .min .0
 unfolding dueTime
@@ -125,9 +132,7 @@ turns-last P c r i j h e l d = go (h .turn)
 
 module _ {P : Plan} {c : Parts} (o : Sound P) (R : Roles P c) where
   pub pivot-short : pivotCount P c < P .frame .0 * P .ticks .0
-  pivot-short =
-      let z : (c .p .0 + 1) * P .ticks .0 ≤ P .frame .0 * P .ticks .0 = mul-le-mul-right (P .ticks .0) (omega (arith, pivot-in-frame o R)) in
-      omega (arith, o .guard-tail)
+  pivot-short = slot-fits o (c .p .0) (pivot-in-frame o R)
 
   module _ {r : Run} {n : ℕ → ℕ} (room : P .nodes .0 ≤ length (r .nodes)) (E : Early P c r n) where
     pub early-on-time : OnTime P c (earlier r)
@@ -163,7 +168,7 @@ module _ {P : Plan} {c : Parts} (o : Sound P) (R : Roles P c) where
           number = E .number;
           before = E .before;
           round = round;
-          together = λ k l e j hj. together k l (ℕ-discrete k i) e j hj (ℕ-discrete j i);
+          together = λ k l e j hj. together (about-ticked P r i k (omega (arith, h .below)) (h .quiet k l) e .1) j hj (ℕ-discrete j i);
         }
       where
         due-now : node r i .time .0 ≡ P .min .0
@@ -186,12 +191,9 @@ module _ {P : Plan} {c : Parts} (o : Sound P) (R : Roles P c) where
         had e j l d (due q z) =
             absurd (d (about-one o j i l (h .below) (after j l q) (after i (h .below) lacks) (turns-last P c r i j h e l z) e))
 
-        together : (k : ℕ) → k < P .nodes .0 → Dec (k ≡ i) → isAbout (node (ticked P i r) k .mode) ≡ true → (j : ℕ) → j < P .nodes .0 → Dec (j ≡ i) → bump n i j ≡ E .number
-        together k l (no d) e j hj q = clash (isAbout (node r k .mode)) (sym (ap (λ (a : NodeState). isAbout (a .mode)) (node-still P r i k d)) ∙ e) (h .quiet k l)
-        together k l (yes d) e j hj (yes q) = rw (q, bump-same n i) (omega (arith, lacks))
-        together k l (yes d) e j hj (no q) =
-            let turned : turns P r i ≡ true = sym (ap (λ (a : NodeState). isAbout (a .mode)) (ap (node (ticked P i r)) d ∙ node-ticked P r i (omega (arith, h .below)))) ∙ e in
-            rw (bump-other n i j q) (had turned j hj q (E .round j hj .turned))
+        together : turns P r i ≡ true → (j : ℕ) → j < P .nodes .0 → Dec (j ≡ i) → bump n i j ≡ E .number
+        together e j l (yes q) = rw (q, bump-same n i) (omega (arith, lacks))
+        together e j l (no q) = rw (bump-other n i j q) (had e j l q (E .round j l .turned))
 
     -- a delay is taken when everybody had the round's tick, and lasts min
     pub all-done : (d : ℕ) → DelayMove P c (earlier r) d → (i : ℕ) → i < P .nodes .0 → (n i ≡ E .number) × (node r i .time .0 ≡ 0)

@@ -3,7 +3,7 @@ use Prim.Native.Nat.{ℕ, suc, _+_, _*_, _%_, _≤_, _<_}
 use mathlib.Core.Path.{_≡_, refl, _∙_}
 use mathlib.Core.Logic.{_≢_}
 use mathlib.Core.Bool.{Bool, true, false, _||_}
-use native.Mathlib.Nat.{lt-of-mul-lt-mul-right}
+use native.Mathlib.Nat.{lt-of-mul-lt-mul-right, mul-le-mul-right}
 use native.Mathlib.Decide.{ℕ-discrete}
 use native.Mathlib.Omega.{arith}
 use lib.Dec.{ltb}
@@ -26,6 +26,15 @@ same-digits d e k c h hc hh q =
     let b : e < d + 1 = lt-of-mul-lt-mul-right k (omega arith) in
     let s : d ≡ e = omega arith in
     (s, let z : e * k + c ≡ e * k + h = rw s at q in omega arith)
+
+-- the first g ticks of a slot of the frame fit into the frame
+pub slot-fits : {P : Plan} → Sound P → (s : ℕ) → s < P .frame .0 → s * P .ticks .0 + P .guard .0 < P .frame .0 * P .ticks .0
+slot-fits {P} o s h =
+    let z : (s + 1) * P .ticks .0 ≤ P .frame .0 * P .ticks .0 = mul-le-mul-right (P .ticks .0) h′ in
+    omega (arith, o .guard-tail)
+  where
+    h′ : s + 1 ≤ P .frame .0
+    h′ = omega arith
 
 -- why a waiting node of slot w is neither about to send nor sending
 pub data Idle (P : Plan) (w c s : ℕ) : Type 0 where
@@ -176,6 +185,12 @@ module _ {P : Plan} (o : Sound P) {p w : ℕ} where
         go Waiting false f e = idle f
         go AboutToSend b f e = clash true refl e
         go Sending b f e = refl
+
+    -- so where it has just come to g of its own slot
+    pub busy-at-own : w < P .frame .0 → u ≡ distance (P .frame .0) p w * P .ticks .0 + P .guard .0 → isAbout (a .mode) ≡ false → isSending (a .mode) ≡ true
+    busy-at-own hw q =
+        let z = at-place w (P .guard .0) hw (omega (arith, o .guard-tail)) q in
+        busy (z .0) (omega (arith, z .1)) (omega (arith, z .1, o .guard-tail))
 
     -- a delay, a send and a message heard leave it where it stands
     pub delay-stands : (d : ℕ) → Stands P p w u (nodeDelayed d a)

@@ -12,6 +12,7 @@ use Rattle.laws.proofs.Ring.{Reaches, on, round, next-place}
 use Rattle.plan.specs.declared.Plan.{Plan}
 use Rattle.plan.specs.Sending.{own}
 use Rattle.plan.specs.Tested.{Sound}
+use Rattle.plan.proofs.Sound.{own-in-frame}
 use Rattle.run.specs.declared.Mode.the-variants.{Waiting}
 use Rattle.run.specs.declared.NodeState.{NodeState}
 use Rattle.run.specs.declared.Run.{Run}
@@ -24,7 +25,7 @@ use Rattle.shown.specs.declared.Parts.{Parts}
 use Rattle.shown.specs.Shown.{dueTime}
 use Rattle.shown.proofs.Play.{OnTime, SendMove, TickMove, DelayMove}
 use Rattle.shown.proofs.Progress.{bump, bump-other, all-ticked, all-delayed}
-use Rattle.shown.proofs.Roles.{Roles, tick-apart}
+use Rattle.shown.proofs.Roles.{FailsTwo, Roles, tick-apart}
 use Rattle.shown.proofs.Wall.{later, due-fast, due-slow, fast-goes-first}
 
 -- node i beside the fast node with the time x: it was due when b sent, or it is not due before the fast node is
@@ -45,24 +46,19 @@ pub record Speaks (s : ℕ) (a : NodeState) : Type 0 where
   pub sends : isSending (a .mode) ≡ true
   pub slot : a .slot .0 ≡ s
 
-pub record Tail (P : Plan) (c : Parts) (r : Run) (m : ℕ → ℕ) : Type 0 where
-  pub by : ℕ
-  pub below : by < P .nodes .0
-  pub other : by ≢ c .fast .0
-  pub slot : ℕ
-  pub slot-in : slot < P .frame .0
-  pub speaks : Speaks slot (node r by)
-  pub fast : Leaving P slot (m (c .fast .0)) (node r (c .fast .0))
-  pub beside : (i : ℕ) → i < P .nodes .0 → i ≢ c .fast .0 → Beside P by (node r (c .fast .0) .time .0) i (m i) (node r i)
+pub record Tail (P : Plan) (c : Parts) (b : ℕ) (r : Run) (m : ℕ → ℕ) : Type 0 where
+  pub speaks : Speaks (own P b) (node r b)
+  pub fast : Leaving P (own P b) (m (c .fast .0)) (node r (c .fast .0))
+  pub beside : (i : ℕ) → i < P .nodes .0 → i ≢ c .fast .0 → Beside P b (node r (c .fast .0) .time .0) i (m i) (node r i)
 
-module _ {P : Plan} {c : Parts} {r : Run} {m : ℕ → ℕ} (o : Sound P) (R : Roles P c) (room : P .nodes .0 ≤ length (r .nodes)) (t : Tail P c r m) where
+module _ {P : Plan} {c : Parts} {b : ℕ} {r : Run} {m : ℕ → ℕ} (o : Sound P) (R : Roles P c) (F : FailsTwo P c b) (room : P .nodes .0 ≤ length (r .nodes)) (t : Tail P c b r m) where
   abbrev f : ℕ
   f = c .fast .0
 
   pub tail-short : (i : ℕ) → i < P .nodes .0 → P .guard .0 + m i < P .frame .0 * P .ticks .0
   tail-short i l = go (ℕ-discrete i f)
     where
-      at : Beside P (t .by) (node r f .time .0) i (m i) (node r i) → P .guard .0 + m i < P .frame .0 * P .ticks .0
+      at : Beside P b (node r f .time .0) i (m i) (node r i) → P .guard .0 + m i < P .frame .0 * P .ticks .0
       at (still-due n e w s h) = omega arith
       at (rests e a h) = h
 
@@ -73,7 +69,7 @@ module _ {P : Plan} {c : Parts} {r : Run} {m : ℕ → ℕ} (o : Sound P) (R : R
   pub tail-on-time : OnTime P c (later r)
   tail-on-time i l = go (ℕ-discrete i f)
     where
-      at : Beside P (t .by) (node r f .time .0) i (m i) (node r i) → node r i .time .0 ≤ P .max .0
+      at : Beside P b (node r f .time .0) i (m i) (node r i) → node r i .time .0 ≤ P .max .0
       at (still-due n e w s h) = omega arith
       at (rests e a h) = omega (arith, t .fast .time)
 
@@ -88,7 +84,7 @@ module _ {P : Plan} {c : Parts} {r : Run} {m : ℕ → ℕ} (o : Sound P) (R : R
       waiting : (k : ℕ) → node r k .mode ≡ Waiting → isAbout (node r k .mode) ≡ true → ⊥
       waiting k e a = clash (isAbout (node r k .mode)) a (ap isAbout e)
 
-      at : Beside P (t .by) (node r f .time .0) i (m i) (node r i) → ⊥
+      at : Beside P b (node r f .time .0) i (m i) (node r i) → ⊥
       at (still-due n e w s l) = waiting i w (h .about)
       at (rests e a l) = clash (isAbout (node r i .mode)) (h .about) a
 
@@ -99,14 +95,14 @@ module _ {P : Plan} {c : Parts} {r : Run} {m : ℕ → ℕ} (o : Sound P) (R : R
   -- the fast node's tick
   pub tail-out : outOfStep P (ticked P f r) ≡ true
   tail-out =
-      tick-apart P r room f (t .by) (R .fast-below) (t .below) (t .other) (t .speaks .sends)
-      (rw (t .fast .waits, slot-moves P (node r f .clock .0) (node r f .slot .0) (t .fast .clock), t .fast .slot, t .speaks .slot) (moves (next-place (P .frame .0) (t .slot) (t .slot-in))))
+      tick-apart P r room f b (R .fast-below) (F .below) (F .other) (t .speaks .sends)
+      (rw (t .fast .waits, slot-moves P (node r f .clock .0) (node r f .slot .0) (t .fast .clock), t .fast .slot, t .speaks .slot) (moves (next-place (P .frame .0) (own P b) (own-in-frame P o b (F .below)))))
     where
-      moves : Reaches (P .frame .0) (t .slot) 1 ((t .slot + 1) % P .frame .0) → (t .slot + 1) % P .frame .0 ≢ t .slot
+      moves : Reaches (P .frame .0) (own P b) 1 ((own P b + 1) % P .frame .0) → (own P b + 1) % P .frame .0 ≢ own P b
       moves (on e) = omega arith
       moves (round e) = omega (arith, o .frame-low)
 
-  pub tail-slow : (i : ℕ) → i ≢ f → TickMove P c (later r) i → Tail P c (ticked P i r) (bump m i)
+  pub tail-slow : (i : ℕ) → i ≢ f → TickMove P c (later r) i → Tail P c b (ticked P i r) (bump m i)
   tail-slow i n h = go (t .beside i (h .below) n)
     where
       early : node r f .time .0 ≢ P .min .0
@@ -115,39 +111,29 @@ module _ {P : Plan} {c : Parts} {r : Run} {m : ℕ → ℕ} (o : Sound P) (R : R
       at-fast : node (ticked P i r) f ≡ node r f
       at-fast = node-still P r i f (λ e. n (sym e))
 
-      go : Beside P (t .by) (node r f .time .0) i (m i) (node r i) → Tail P c (ticked P i r) (bump m i)
+      go : Beside P b (node r f .time .0) i (m i) (node r i) → Tail P c b (ticked P i r) (bump m i)
       go (still-due d e w s l) =
           record {
-            by = t .by;
-            below = t .below;
-            other = t .other;
-            slot = t .slot;
-            slot-in = t .slot-in;
-            speaks = rw (node-still P r i (t .by) (λ q. d (sym q))) (t .speaks);
+            speaks = rw (node-still P r i b (λ q. d (sym q))) (t .speaks);
             fast = rw (at-fast, bump-other m i f (λ e. n (sym e))) (t .fast);
-            beside = rw at-fast (all-ticked P r room (λ k a l. k ≢ f → Beside P (t .by) (node r f .time .0) k l a) m i (h .below)
+            beside = rw at-fast (all-ticked P r room (λ k a l. k ≢ f → Beside P b (node r f .time .0) k l a) m i (h .below)
                 (λ q. rests (omega (arith, o .min-max)) (rw (w, mode-elsewhere P (own P i) (node r i .clock .0) (node r i .slot .0) s)) (omega arith))
                 (λ k l q. t .beside k l));
           }
       go (rests e a l) = absurd (early (omega (arith, t .fast .time, h .due, due-slow P c i n)))
 
-  pub tail-delay : (d : ℕ) → DelayMove P c (later r) d → Tail P c (delayed P d r) m
+  pub tail-delay : (d : ℕ) → DelayMove P c (later r) d → Tail P c b (delayed P d r) m
   tail-delay d h =
       let x = t .fast in
       record {
-        by = t .by;
-        below = t .below;
-        other = t .other;
-        slot = t .slot;
-        slot-in = t .slot-in;
-        speaks = rw (node-delayed P r d (t .by) (t .below) (omega (arith, t .below))) (record { sends = t .speaks .sends; slot = t .speaks .slot });
+        speaks = rw (node-delayed P r d b (F .below) (omega (arith, F .below))) (record { sends = t .speaks .sends; slot = t .speaks .slot });
         fast = rw at-fast (record { time = rw (due-fast P c) at (h .within f (R .fast-below)); waits = x .waits; clock = x .clock; slot = x .slot; short = x .short });
-        beside = rw at-fast (all-delayed P r room (λ i a. i ≢ f → Beside P (t .by) (node r f .time .0 + d) i (m i) a) d (λ i l n. go i n (h .early i l) (t .beside i l n)));
+        beside = rw at-fast (all-delayed P r room (λ i a. i ≢ f → Beside P b (node r f .time .0 + d) i (m i) a) d (λ i l n. go i n (h .early i l) (t .beside i l n)));
       }
     where
       at-fast : node (delayed P d r) f ≡ nodeDelayed d (node r f)
       at-fast = node-delayed P r d f (R .fast-below) (omega (arith, R .fast-below))
 
-      go : (i : ℕ) → i ≢ f → node r i .time .0 < dueTime P c After i → Beside P (t .by) (node r f .time .0) i (m i) (node r i) → Beside P (t .by) (node r f .time .0 + d) i (m i) (nodeDelayed d (node r i))
+      go : (i : ℕ) → i ≢ f → node r i .time .0 < dueTime P c After i → Beside P b (node r f .time .0) i (m i) (node r i) → Beside P b (node r f .time .0 + d) i (m i) (nodeDelayed d (node r i))
       go i n l (still-due q e w s u) = absurd (omega (arith, due-slow P c i n))
       go i n l (rests e a u) = rests (omega arith) a u

@@ -10,7 +10,6 @@ use borrow.Author.Tests.{eq-eqb, ne-eqb, eqb-true}
 use lib.Dec.{eqb}
 use lib.ListN.{length}
 use Rattle.laws.proofs.Bools.{clash, cond-by}
-use Rattle.laws.proofs.Ring.{distance-below}
 use Rattle.plan.specs.declared.Plan.{Plan}
 use Rattle.plan.specs.Sending.{own}
 use Rattle.plan.specs.Tested.{Sound}
@@ -28,8 +27,8 @@ use Rattle.shown.specs.declared.Parts.{Parts}
 use Rattle.shown.specs.Shown.{dueTime, goesFirst}
 use Rattle.shown.proofs.Play.{OnTime, TickMove, DelayMove, Turn, goes-first, goes-second, goes-third}
 use Rattle.shown.proofs.Progress.{bump, bump-same, bump-other, all-ticked, all-delayed}
-use Rattle.shown.proofs.Stands.{Stands, tick-stands, about-count, busy, at-place, delay-stands}
-use Rattle.shown.proofs.Roles.{Roles, farOf, far-none}
+use Rattle.shown.proofs.Stands.{busy-at-own, Stands, tick-stands, about-count, delay-stands}
+use Rattle.shown.proofs.Roles.{far-fits, Roles, farOf, far-none}
 
 -- who neither sends nor is about to does not send after its tick
 pub still-silent : (P : Plan) (w c s : ℕ) (m : Mode) → isAbout m ≡ false → isSending m ≡ false → isSending (modeAfter P w c s m) ≡ false
@@ -121,16 +120,8 @@ module _ {P : Plan} {c : Parts} (o : Sound P) (R : Roles P c) where
   fast-at-limit {j} {a} x e = go (ℕ-discrete (1 + j) (farOf P c f * P .ticks .0))
     where
       go : Dec (1 + j ≡ farOf P c f * P .ticks .0) → 1 + j < farOf P c f * P .ticks .0
-      go (yes q) =
-          let w = own P f in
-          let z = at-place o (x .stands) w (P .guard .0) (own-in-frame P o f (R .fast-below)) (omega (arith, o .guard-tail)) (omega arith) in
-          clash (isSending (a .mode)) (busy o (x .stands) (z .0) (omega (arith, z .1)) (omega (arith, z .1, o .guard-tail)) e) (x .silent)
+      go (yes q) = clash (isSending (a .mode)) (busy-at-own o (x .stands) (own-in-frame P o f (R .fast-below)) (omega arith) e) (x .silent)
       go (no q) = omega (arith, x .limit)
-
-  fast-short : (P .guard .0) + (farOf P c f * P .ticks .0) < P .frame .0 * P .ticks .0
-  fast-short =
-      let z : (farOf P c f + 1) * P .ticks .0 ≤ P .frame .0 * P .ticks .0 = mul-le-mul-right (P .ticks .0) (omega (arith, distance-below (P .frame .0) (c .p .0) (own P f) (omega (arith, o .frame-low)))) in
-      omega (arith, o .guard-tail)
 
   -- the run
 
@@ -143,8 +134,8 @@ module _ {P : Plan} {c : Parts} (o : Sound P) (R : Roles P c) where
     short i l = go (ℕ-discrete i f)
       where
         go : Dec (i ≡ f) → P .guard .0 + m i < P .frame .0 * P .ticks .0
-        go (yes e) = rw e (omega (arith, fast-short, w .fast .limit))
-        go (no n) = omega (arith, fast-short, w .fast .limit, behind i l n)
+        go (yes e) = rw e (omega (arith, far-fits o R f, w .fast .limit))
+        go (no n) = omega (arith, far-fits o R f, w .fast .limit, behind i l n)
 
     pub wall-on-time : OnTime P c (later r)
     wall-on-time i l = go (ℕ-discrete i f)
@@ -189,7 +180,7 @@ module _ {P : Plan} {c : Parts} (o : Sound P) (R : Roles P c) where
         let limit = fast-at-limit (w .fast) quiet in
         record {
           fast = rw (at-fast, bump-same m f) (record {
-            stands = rw more (tick-stands o quiet (omega (arith, fast-short)) (w .fast .stands));
+            stands = rw more (tick-stands o quiet (omega (arith, far-fits o R f)) (w .fast .stands));
             time = omega arith;
             now = λ e. refl;
             silent = still-silent P (own P f) (node r f .clock .0) (node r f .slot .0) (node r f .mode) quiet (w .fast .silent);
@@ -229,7 +220,7 @@ module _ {P : Plan} {c : Parts} (o : Sound P) (R : Roles P c) where
           fast = rw (at-fast, count-fast) (w .fast);
           slow = rw (at-fast, count-fast) (all-ticked P r room (λ k a l. k ≢ f → Slow P c (m f) (node r f) k l a) m i (h .below)
               (λ n. record {
-                stands = rw more (tick-stands o quiet (omega (arith, fast-short, w .fast .limit, behind w i (h .below) n)) (s .stands));
+                stands = rw more (tick-stands o quiet (omega (arith, far-fits o R f, w .fast .limit, behind w i (h .below) n)) (s .stands));
                 time = omega arith;
                 wall = omega (arith, s .wall, h .due, due-slow P c i n);
                 first = λ e. absurd (early e);
