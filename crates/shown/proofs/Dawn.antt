@@ -168,9 +168,6 @@ module _ {P : Plan} {c : Parts} (o : Sound P) (R : Roles P c) where
 
   -- before the message
 
-  zero-in : 0 < P .frame .0
-  zero-in = omega (arith, o .frame-low)
-
   module _ {r : Run} {n : ℕ → ℕ} (room : P .nodes .0 ≤ length (r .nodes)) (E : Eve P c r n) where
     pub eve-on-time : OnTime P c (within r)
     eve-on-time i l = rw (due-in P c i) (round-time o (E .round i l .turned))

@@ -24,7 +24,7 @@ use Rattle.shown.specs.declared.Parts.{Parts}
 use Rattle.shown.specs.Shown.{dueTime, turns, goesFirst}
 use Rattle.shown.proofs.Play.{OnTime, Quiet, SendMove, TickMove, DelayMove, Turn, goes-first, goes-second, goes-third}
 use Rattle.shown.proofs.Progress.{bump, bump-same, bump-other, all-ticked, all-delayed, all-sent}
-use Rattle.shown.proofs.Stands.{slot-fits, Stands, same-digits, tick-stands, at-place, about-at, about-count, delay-stands, send-stands, hear-stands}
+use Rattle.shown.proofs.Stands.{slot-fits, Stands, same-digits, tick-stands, at-place, about-count, delay-stands, send-stands, hear-stands}
 use Rattle.shown.proofs.Roles.{Roles, pivot-in-frame}
 
 -- a node in round T with v ticks and the time x
@@ -149,12 +149,6 @@ module _ {P : Plan} {c : Parts} (o : Sound P) (R : Roles P c) where
           together = λ k l e. E .together i (h .below) (h .about);
         }
       where
-        zero-in : 0 < P .frame .0
-        zero-in = omega (arith, o .frame-low)
-
-        at : (node r i .slot .0 ≡ own P i) × (node r i .clock .0 ≡ P .guard .0)
-        at = about-at o (E .round i (h .below) .stands) (h .about)
-
         hears : (k : ℕ) → k < P .nodes .0 → k ≢ i → Stands P 0 (own P k) (n k) (nodeHearing P (node r k))
         hears k l d =
             let count = about-count o (E .round i (h .below) .stands) (h .about) in

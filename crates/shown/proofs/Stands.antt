@@ -30,11 +30,9 @@ same-digits d e k c h hc hh q =
 -- the first g ticks of a slot of the frame fit into the frame
 pub slot-fits : {P : Plan} → Sound P → (s : ℕ) → s < P .frame .0 → s * P .ticks .0 + P .guard .0 < P .frame .0 * P .ticks .0
 slot-fits {P} o s h =
-    let z : (s + 1) * P .ticks .0 ≤ P .frame .0 * P .ticks .0 = mul-le-mul-right (P .ticks .0) h′ in
+    let next : s + 1 ≤ P .frame .0 = omega arith in
+    let z : (s + 1) * P .ticks .0 ≤ P .frame .0 * P .ticks .0 = mul-le-mul-right (P .ticks .0) next in
     omega (arith, o .guard-tail)
-  where
-    h′ : s + 1 ≤ P .frame .0
-    h′ = omega arith
 
 -- why a waiting node of slot w is neither about to send nor sending
 pub data Idle (P : Plan) (w c s : ℕ) : Type 0 where
