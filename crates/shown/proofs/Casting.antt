@@ -36,7 +36,8 @@ named : (s : Rule → Sides) (rule : Rule) → outcomeBy (s One) (s Two) (s Thre
 unfolding outcomeBy
 named s rule h = ltb-false (s rule .left) (s rule .right) (go (holds (s One)) refl (holds (s Two)) refl (holds (s Three)) refl h)
   where
-    go : (a : Bool) → holds (s One) ≡ a → (b : Bool) → holds (s Two) ≡ b → (c : Bool) → holds (s Three) ≡ c → cond a (cond b (cond c Accepted (Fails Three)) (Fails Two)) (Fails One) ≡ Fails rule → holds (s rule) ≡ false
+    go : (a : Bool) → holds (s One) ≡ a → (b : Bool) → holds (s Two) ≡ b → (c : Bool) → holds (s Three) ≡ c
+        → cond a (cond b (cond c Accepted (Fails Three)) (Fails Two)) (Fails One) ≡ Fails rule → holds (s rule) ≡ false
     go false e b x c y h = let z : One ≡ rule = cc in rw z at e
     go true e false x c y h = let z : Two ≡ rule = cc in rw z at x
     go true e true x false y h = let z : Three ≡ rule = cc in rw z at y

@@ -192,7 +192,8 @@ module _ {P : Plan} {c : Parts} (o : Sound P) (R : Roles P c) where
                   let late : (farOf P c b + 1) * P .ticks .0 < P .guard .0 + 3 + m f = lt-of-mul-lt-mul-right (P .min .0) (omega (arith, t .wall, w .fast .time, F .rule)) in
                   ends (decLe ((farOf P c b + 1) * P .ticks .0) (P .guard .0 + 1 + m f)) late
                 where
-                  ends : Dec ((farOf P c b + 1) * P .ticks .0 ≤ P .guard .0 + 1 + m f) → (farOf P c b + 1) * P .ticks .0 < P .guard .0 + 3 + m f → Unless P (later (sent P b r)) (Tail P c b (sent P b r) m)
+                  ends : Dec ((farOf P c b + 1) * P .ticks .0 ≤ P .guard .0 + 1 + m f) → (farOf P c b + 1) * P .ticks .0 < P .guard .0 + 3 + m f
+                      → Unless P (later (sent P b r)) (Tail P c b (sent P b r) m)
                   ends (yes l) late =
                       over (send-apart P r room b f (F .below) (R .fast-below) (λ q. F .other (sym q))
                       (rw (about-at o (slow b (F .below) (F .other) .stands) (h .about) .0)

@@ -144,7 +144,8 @@ module _ (P : Plan) (c : Parts) (o : Sound P) (q : Place) where
       none-of : (f : ℕ → Bool) → ((j : ℕ) → j < P .nodes .0 → (isDue P c q j && f j) ≡ false) → (j : ℕ) → j < P .nodes .0 → Due P c q j → f j ≡ false
       none-of f h j l d = rw (eq-eqb (node (q .run) j .time .0) (dueTime P c (q .mark) j) d) at (h j l)
 
-      tick : (f : ℕ → Bool) → ((i : ℕ) → f i ≡ true → Turn P c q i) → Quiet P q → ltb (firstBelow (P .nodes .0) (λ i. isDue P c q i && f i)) (P .nodes .0) ≡ true → TickMove P c q (firstBelow (P .nodes .0) (λ i. isDue P c q i && f i))
+      tick : (f : ℕ → Bool) → ((i : ℕ) → f i ≡ true → Turn P c q i) → Quiet P q → ltb (firstBelow (P .nodes .0) (λ i. isDue P c q i && f i)) (P .nodes .0) ≡ true
+          → TickMove P c q (firstBelow (P .nodes .0) (λ i. isDue P c q i && f i))
       tick f turn a e =
           let i = firstBelow (P .nodes .0) (λ i. isDue P c q i && f i) in
           let both = first-is (P .nodes .0) (λ i. isDue P c q i && f i) e in

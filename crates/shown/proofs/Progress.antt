@@ -68,14 +68,16 @@ module _ (P : Plan) (r : Run) (room : P .nodes .0 ≤ length (r .nodes)) where
   pub all-delayed : (A : ℕ → NodeState → Type 0) (d : ℕ) → ((k : ℕ) → k < P .nodes .0 → A k (nodeDelayed d (node r k))) → (k : ℕ) → k < P .nodes .0 → A k (node (delayed P d r) k)
   all-delayed A d h k l = rw (node-delayed P r d k l (omega arith)) (h k l)
 
-  pub all-ticked : (A : ℕ → NodeState → ℕ → Type 0) (n : ℕ → ℕ) (i : ℕ) → i < P .nodes .0 → A i (nodeTicked P (own P i) (node r i)) (suc (n i)) → ((k : ℕ) → k < P .nodes .0 → k ≢ i → A k (node r k) (n k)) → (k : ℕ) → k < P .nodes .0 → A k (node (ticked P i r) k) (bump n i k)
+  pub all-ticked : (A : ℕ → NodeState → ℕ → Type 0) (n : ℕ → ℕ) (i : ℕ) → i < P .nodes .0 → A i (nodeTicked P (own P i) (node r i)) (suc (n i))
+      → ((k : ℕ) → k < P .nodes .0 → k ≢ i → A k (node r k) (n k)) → (k : ℕ) → k < P .nodes .0 → A k (node (ticked P i r) k) (bump n i k)
   all-ticked A n i below now h k l = go (ℕ-discrete k i)
     where
       go : Dec (k ≡ i) → A k (node (ticked P i r) k) (bump n i k)
       go (yes e) = rw (e, node-ticked P r i (omega arith), bump-same n i) now
       go (no d) = rw (node-still P r i k d, bump-other n i k d) (h k l d)
 
-  pub all-sent : (A : ℕ → NodeState → Type 0) (i : ℕ) → i < P .nodes .0 → A i (nodeSent (node r i)) → ((k : ℕ) → k < P .nodes .0 → k ≢ i → A k (nodeHearing P (node r k))) → (k : ℕ) → k < P .nodes .0 → A k (node (sent P i r) k)
+  pub all-sent : (A : ℕ → NodeState → Type 0) (i : ℕ) → i < P .nodes .0 → A i (nodeSent (node r i)) → ((k : ℕ) → k < P .nodes .0 → k ≢ i → A k (nodeHearing P (node r k)))
+      → (k : ℕ) → k < P .nodes .0 → A k (node (sent P i r) k)
   all-sent A i below now h k l = go (ℕ-discrete k i)
     where
       go : Dec (k ≡ i) → A k (node (sent P i r) k)
@@ -213,7 +215,8 @@ module _ (P : Plan) (c : Parts) (o : Sound P) (plain : planNumber P ≡ 0) (by-p
     Rest w = (q : Place) (n : ℕ → ℕ) → Kept P (q .run) → weights P B (q .run) n < w → Unless P q (I q n) → Reaches P q (left P B n)
 
     -- a tick, where what comes after it ends
-    ticks-on : (w : ℕ) → Rest w → (q : Place) (n : ℕ → ℕ) (i : Node) → Kept P (q .run) → weights P B (q .run) n < suc w → outOfStep P (q .run) ≡ false → I q n → nextStep P c q ≡ TickOf i → TickMove P c q (i .0) → Reaches P q (left P B n)
+    ticks-on : (w : ℕ) → Rest w → (q : Place) (n : ℕ → ℕ) (i : Node) → Kept P (q .run) → weights P B (q .run) n < suc w → outOfStep P (q .run) ≡ false → I q n
+        → nextStep P c q ≡ TickOf i → TickMove P c q (i .0) → Reaches P q (left P B n)
     ticks-on w rest q n i k h t v e m =
         let l = move-legal P c o q (TickOf i) (k .range) t m in
         let less = short q n k v (i .0) (m .below) in
@@ -227,7 +230,8 @@ module _ (P : Plan) (c : Parts) (o : Sound P) (plain : planNumber P ≡ 0) (by-p
     goes-on w rest q n k h (on v) = go (outOfStep P (q .run)) refl
       where
         -- after a delay somebody is due and nobody about to send: a tick
-        waited : (d : Time) → DelayMove P c q (d .0) → Kept P (delayed P (d .0) (q .run)) → Unless P (placeAfter P c q (Delay d)) (I (placeAfter P c q (Delay d)) n) → Reaches P (placeAfter P c q (Delay d)) (left P B n)
+        waited : (d : Time) → DelayMove P c q (d .0) → Kept P (delayed P (d .0) (q .run)) → Unless P (placeAfter P c q (Delay d)) (I (placeAfter P c q (Delay d)) n)
+            → Reaches P (placeAfter P c q (Delay d)) (left P B n)
         waited d m k′ (over e) = stop (placeAfter P c q (Delay d)) (left P B n) k′ e
         waited d m k′ (on v′) = then (outOfStep P (q′ .run)) refl
           where

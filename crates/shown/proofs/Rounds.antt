@@ -62,7 +62,8 @@ module _ {P : Plan} (o : Sound P) where
   at-count h s e hs he q = at-place o h s e hs he (rw (from-0 (P .frame .0) s hs) q)
 
   -- of nodes with one count only one is about to send
-  pub about-one : (i j : ℕ) {v : ℕ} {a b : NodeState} → i < P .nodes .0 → j < P .nodes .0 → Stands P 0 (own P i) v a → Stands P 0 (own P j) v b → isAbout (a .mode) ≡ true → isAbout (b .mode) ≡ true → i ≡ j
+  pub about-one : (i j : ℕ) {v : ℕ} {a b : NodeState} → i < P .nodes .0 → j < P .nodes .0 → Stands P 0 (own P i) v a → Stands P 0 (own P j) v b → isAbout (a .mode) ≡ true
+      → isAbout (b .mode) ≡ true → i ≡ j
   about-one i j hi hj s t e d =
       let zero-in : 0 < P .frame .0 = omega (arith, o .frame-low) in
       let x = about-count o s e in
@@ -108,7 +109,8 @@ module _ {P : Plan} (o : Sound P) where
         })
 
 -- where nobody was about to send, only the node that ticked can be
-pub about-ticked : (P : Plan) (r : Run) (i k : ℕ) → i < length (r .nodes) → isAbout (node r k .mode) ≡ false → isAbout (node (ticked P i r) k .mode) ≡ true → (k ≡ i) × (turns P r i ≡ true)
+pub about-ticked : (P : Plan) (r : Run) (i k : ℕ) → i < length (r .nodes) → isAbout (node r k .mode) ≡ false → isAbout (node (ticked P i r) k .mode) ≡ true
+    → (k ≡ i) × (turns P r i ≡ true)
 about-ticked P r i k l q e = go (ℕ-discrete k i)
   where
     go : Dec (k ≡ i) → (k ≡ i) × (turns P r i ≡ true)

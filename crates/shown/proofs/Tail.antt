@@ -134,6 +134,7 @@ module _ {P : Plan} {c : Parts} {b : ℕ} {r : Run} {m : ℕ → ℕ} (o : Sound
       at-fast : node (delayed P d r) f ≡ nodeDelayed d (node r f)
       at-fast = node-delayed P r d f (R .fast-below) (omega (arith, R .fast-below))
 
-      go : (i : ℕ) → i ≢ f → node r i .time .0 < dueTime P c After i → Beside P b (node r f .time .0) i (m i) (node r i) → Beside P b (node r f .time .0 + d) i (m i) (nodeDelayed d (node r i))
+      go : (i : ℕ) → i ≢ f → node r i .time .0 < dueTime P c After i → Beside P b (node r f .time .0) i (m i) (node r i)
+          → Beside P b (node r f .time .0 + d) i (m i) (nodeDelayed d (node r i))
       go i n l (still-due q e w s u) = absurd (omega (arith, due-slow P c i n))
       go i n l (rests e a u) = rests (omega arith) a u

@@ -38,7 +38,8 @@ use Rattle.shown.proofs.Dawn.{within, Eve, Dawn, pivot-is, pivot-not, e
 use Rattle.shown.proofs.Casting.{cast}
 
 -- what is given out goes by the parts of the failed rule
-pub given-is : (P : Plan) (rule : Rule) → planNumber P ≡ 0 → verdictOf P .outcome ≡ Fails rule → (q : Place) → inRange P (q .run) ≡ true → givenOf P q ≡ givenBy P (partsFor P rule) q
+pub given-is : (P : Plan) (rule : Rule) → planNumber P ≡ 0 → verdictOf P .outcome ≡ Fails rule → (q : Place) → inRange P (q .run) ≡ true
+    → givenOf P q ≡ givenBy P (partsFor P rule) q
 unfolding givenOf givenFor
 given-is P rule e v q r = rw (eq-eqb (planNumber P) 0 e, r, v)
 
