@@ -18,27 +18,28 @@ use Rattle.run.specs.Moves.{nodeTicked, nodeDelayed}
 use Rattle.run.specs.Reckoning.{ticksFrom}
 use Rattle.run.proofs.Outcomes.{clock-heard, clock-on, clock-round, mode-turns, mode-elsewhere, mode-waits, mode-ends, mode-sends, slot-moves, slot-stays, slot-sending}
 use Rattle.in_step.proofs.Numbers.{live-tick, live-heard, live-delay, same-slot, slot-within, slots-some}
-use Rattle.in_step.proofs.Invariant.{Phase, Knows, Heard, Waits, Abouts, Sends, Case, Good, Holds}
+use Rattle.in_step.proofs.Invariant.{Phase, Knows, Heard, Waits, Abouts, Sends, Case, KnowsOf, CaseOf, Good, Short, Holds}
 
 -- The state of a node, from its parts.
 abbrev pub stateOf : (c s x : ℕ) → Mode → Bool → NodeState
 stateOf c s x m b = record { clock = record { 0 = c }; slot = record { 0 = s }; time = record { 0 = x }; mode = m; pending = b }
 
 -- every node that is not pending counts
-pub knows-of : (P : Plan) (f : Phase) (y w c s x : ℕ) (m : Mode) → Case P f y w c s x m false → Knows P f y w c s x
-knows-of P f y w c s x Waiting q = q .live
-knows-of P f y w c s x AboutToSend q = q .live
-knows-of P f y w c s x Sending q = q .live
+pub knows-of : (P : Plan) (f : Phase) (y w : ℕ) (a : NodeState) (m : Mode) → CaseOf P f y w a m false → KnowsOf P f y w a
+knows-of P f y w a Waiting v = v .live
+knows-of P f y w a AboutToSend v = v .live
+knows-of P f y w a Sending v = v .live
 
--- in slot p a node's ticks since the beginning of p are its clock
+-- from p to p there is no slot to count, so a node's ticks there are its clock
+pub away-none : (P : Plan) (p s : ℕ) → p < P .frame .0 → s ≡ p → distance (P .frame .0) p s ≡ 0
+away-none P p s h e = rw e (distance-self (P .frame .0) p h)
+
 pub ticks-here : (P : Plan) (p c s : ℕ) → p < P .frame .0 → s ≡ p → ticksFrom P p c s ≡ c
-ticks-here P p c s h e = rw (e, distance-self (P .frame .0) p h) (omega arith)
+ticks-here P p c s h e = rw (away-none P p s h e) (omega arith)
 
 -- the turn of the sender of p is not next
 pub not-next : (P : Plan) (f : Phase) → Holds P f → (w : ℕ) → w ≡ f .p → distance (P .frame .0) (f .p) w ≢ f .D
-not-next P f H w e q =
-    let none : distance (P .frame .0) (f .p) w ≡ 0 = rw e (distance-self (P .frame .0) (f .p) (H .start)) in
-    omega (arith, H .one)
+not-next P f H w e q = omega (arith, away-none P (f .p) w (H .start) e, H .one)
 
 module _ (P : Plan) (S : Sound P) (f : Phase) (H : Holds P f) (y w : ℕ) (hw : w < P .frame .0) where
   -- a tick on a pending message: the clock is set to g + 1, one tick after the message
@@ -170,15 +171,17 @@ module _ (P : Plan) (S : Sound P) (f : Phase) (H : Holds P f) (y w : ℕ) (hw : 
                 };
           })
 
-  -- a tick keeps a node good, unless it carries the node's count to the end of slot D
-  pub tick-good : (c s x : ℕ) (m : Mode) (b : Bool) → P .min .0 ≤ x → (b ≡ false → ticksFrom P (f .p) c s + 1 < f .D * P .ticks .0 + P .ticks .0)
-      → Good P f y w (stateOf c s x m b) → Good P f y w (nodeTicked P w (stateOf c s x m b))
-  tick-good c s x Waiting true h cap q = tick-heard c s x (q .slot-low) (q .time-low) (q .here)
-  tick-good c s x Waiting false h cap q = tick-waits c s x (q .clock-low) (q .slot-low) (q .time-low) h (cap refl) (q .here)
-  tick-good c s x AboutToSend true h cap q = absurd (q .here)
-  tick-good c s x AboutToSend false h cap q = absurd (omega (arith, q .here .zero, S .min-low))
-  tick-good c s x Sending true h cap q = absurd (q .here)
-  tick-good c s x Sending false h cap q = tick-sends c s x (q .clock-low) (q .slot-low) (q .time-low) h (q .here)
+  -- a tick keeps a node good, where it does not carry its count past slot D
+  pub tick-good : (a : NodeState) → P .min .0 ≤ a .time .0 → (a .pending ≡ false → Short P f (f .D) a) → Good P f y w a → Good P f y w (nodeTicked P w a)
+  tick-good a h short q = go (a .mode) (a .pending) short (q .here)
+    where
+      go : (m : Mode) (b : Bool) → (b ≡ false → Short P f (f .D) a) → CaseOf P f y w a m b → Good P f y w (nodeTicked P w (stateOf (a .clock .0) (a .slot .0) (a .time .0) m b))
+      go Waiting true short v = tick-heard (a .clock .0) (a .slot .0) (a .time .0) (q .slot-low) (q .time-low) v
+      go Waiting false short v = tick-waits (a .clock .0) (a .slot .0) (a .time .0) (q .clock-low) (q .slot-low) (q .time-low) h (short refl) v
+      go AboutToSend true short v = absurd v
+      go AboutToSend false short v = absurd (omega (arith, v .zero, S .min-low))
+      go Sending true short v = absurd v
+      go Sending false short v = tick-sends (a .clock .0) (a .slot .0) (a .time .0) (q .clock-low) (q .slot-low) (q .time-low) h v
 
 -- so does a delay, of a node that is not about to send
 module _ (P : Plan) (f : Phase) (y w d : ℕ) where
