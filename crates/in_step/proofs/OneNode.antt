@@ -14,7 +14,7 @@ use Rattle.run.specs.declared.Mode.{Mode}
 use Rattle.run.specs.declared.Mode.the-variants.{Waiting, AboutToSend, Sending}
 use Rattle.run.specs.declared.NodeState.{NodeState}
 use Rattle.run.specs.State.{isAbout}
-use Rattle.run.specs.Moves.{nodeTicked, nodeDelayed}
+use Rattle.run.specs.Moves.{clockAfter, slotAfter, modeAfter, nodeTicked, nodeDelayed}
 use Rattle.run.specs.Reckoning.{ticksFrom}
 use Rattle.run.proofs.Outcomes.{clock-heard, clock-on, clock-round, mode-turns, mode-elsewhere, mode-waits, mode-ends, mode-sends, slot-moves, slot-stays, slot-sending}
 use Rattle.in_step.proofs.Numbers.{live-tick, live-heard, live-delay, same-slot, slot-within, slots-some}
@@ -42,24 +42,22 @@ pub not-next : (P : Plan) (f : Phase) → Holds P f → (w : ℕ) → w ≡ f .p
 not-next P f H w e q = omega (arith, away-none P (f .p) w (H .start) e, H .one)
 
 module _ (P : Plan) (S : Sound P) (f : Phase) (H : Holds P f) (y w : ℕ) (hw : w < P .frame .0) where
+  -- a node after a tick, by the outcomes of its clock, slot and mode
+  ticked-good : (c s x : ℕ) (m : Mode) (b : Bool) {c′ s′ : ℕ} {m′ : Mode} → clockAfter P b c ≡ c′ → slotAfter P c s m ≡ s′ → modeAfter P w c s m ≡ m′ → c′ < P .ticks .0 → s′ < P .frame .0
+      → Case P f y w c′ s′ 0 m′ false → Good P f y w (nodeTicked P w (stateOf c s x m b))
+  ticked-good c s x m b clock slot mode hc hs h = rw (clock, slot, mode) (record { clock-low = hc; slot-low = hs; time-low = omega arith; here = h })
+
   -- a tick on a pending message: the clock is set to g + 1, one tick after the message
   tick-heard : (c s x : ℕ) → s < P .frame .0 → x ≤ P .max .0 → Heard P f y w c s x → Good P f y w (nodeTicked P w (stateOf c s x Waiting true))
   tick-heard c s x hs hx q =
-      let elsewhere : s ≢ w = λ e. q .other (sym e ∙ q .place) in
       let stays = slot-stays P c s (omega (arith, q .early)) in
-      let waits = mode-elsewhere P w c s elsewhere in
+      let waits = mode-elsewhere P w c s (λ e. q .other (sym e ∙ q .place)) in
       let u = ticks-here P (f .p) (P .guard .0 + 1) s (H .start) (q .place) in
-      let k = slots-some (f .D) (P .ticks .0) (H .one) in
-      rw (clock-heard P c, stays, waits)
+      let some = slots-some (f .D) (P .ticks .0) (H .one) in
+      ticked-good c s x Waiting true (clock-heard P c) stays waits (omega (arith, S .guard-tail)) hs
       (record {
-        clock-low = omega (arith, S .guard-tail);
-        slot-low = hs;
-        time-low = omega arith;
-        here =
-            record {
-              live = live-heard (q .leads) (u ∙ ap (λ (n : ℕ). n + 1) (sym (q .message))) (q .time) hx;
-              before = λ e. omega (arith, S .ticks-low);
-            };
+        live = live-heard (q .leads) (u ∙ ap (λ (n : ℕ). n + 1) (sym (q .message))) (q .time) hx;
+        before = λ e. omega (arith, S .ticks-low);
       })
 
   -- the node's turn comes with the tick that counts to D slots and g ticks
@@ -85,7 +83,7 @@ module _ (P : Plan) (S : Sound P) (f : Phase) (H : Holds P f) (y w : ℕ) (hw : 
   -- a tick that makes the node about to send: its slot lies ahead of p, and no farther than D
   turns-about : (c s x : ℕ) → P .min .0 ≤ x → x ≤ P .max .0 → Waits P f y w c s x → ticksFrom P (f .p) c s + 1 < f .D * P .ticks .0 + P .ticks .0 → s ≡ w → c + 1 ≡ P .guard .0
       → Abouts P f y w (c + 1) s 0
-  turns-about c s x hn hx q cap e t =
+  turns-about c s x hn hx q short e t =
       let d = distance (P .frame .0) (f .p) in
       record {
         live = let u : ticksFrom P (f .p) (c + 1) s ≡ ticksFrom P (f .p) c s + 1 = omega arith in rw u (live-tick hn hx (q .live));
@@ -104,13 +102,16 @@ module _ (P : Plan) (S : Sound P) (f : Phase) (H : Holds P f) (y w : ℕ) (hw : 
 
   tick-waits : (c s x : ℕ) → c < P .ticks .0 → s < P .frame .0 → x ≤ P .max .0 → P .min .0 ≤ x → ticksFrom P (f .p) c s + 1 < f .D * P .ticks .0 + P .ticks .0
       → Waits P f y w c s x → Good P f y w (nodeTicked P w (stateOf c s x Waiting false))
-  tick-waits c s x hc hs hx hn cap q = go (ℕ-discrete (c + 1) (P .ticks .0)) (ℕ-discrete s w) (ℕ-discrete (c + 1) (P .guard .0))
+  tick-waits c s x hc hs hx hn short q = go (ℕ-discrete (c + 1) (P .ticks .0)) (ℕ-discrete s w) (ℕ-discrete (c + 1) (P .guard .0))
     where
       d : ℕ
       d = distance (P .frame .0) (f .p) s
 
-      stays : (s ≡ w → c + 1 ≢ P .guard .0) → Waits P f y w (c + 1) s 0
-      stays n = waits-on c s x (c + 1) s hn hx q (omega arith) (λ a b. let o = due-now c s hc hs a b in n (o .0) (o .1))
+      waits : (s ≡ w → c + 1 ≢ P .guard .0) → Waits P f y w (c + 1) s 0
+      waits n = waits-on c s x (c + 1) s hn hx q (omega arith) (λ a b. let o = due-now c s hc hs a b in n (o .0) (o .1))
+
+      within : c + 1 ≢ P .ticks .0 → {m : Mode} → modeAfter P w c s Waiting ≡ m → Case P f y w (c + 1) s 0 m false → Good P f y w (nodeTicked P w (stateOf c s x Waiting false))
+      within r mode h = ticked-good c s x Waiting false (clock-on P c (omega (arith, r))) (slot-stays P c s r) mode (omega arith) hs h
 
       go : Dec (c + 1 ≡ P .ticks .0) → Dec (s ≡ w) → Dec (c + 1 ≡ P .guard .0) → Good P f y w (nodeTicked P w (stateOf c s x Waiting false))
       go (yes r) a b =
@@ -118,57 +119,34 @@ module _ (P : Plan) (S : Sound P) (f : Phase) (H : Holds P f) (y w : ℕ) (hw : 
           let far : d + 1 ≤ f .D = slot-within (d + 1) (f .D) (P .ticks .0) 0 (omega arith) in
           let next = distance-next (P .frame .0) (f .p) s (H .start) hs (omega (arith, far, H .gap)) in
           let u : (d + 1) * P .ticks .0 + 0 ≡ d * P .ticks .0 + c + 1 = omega arith in
-          rw (clock-round P c r, slot-moves P c s r, mode-waits P w c s g)
-          (record {
-            clock-low = omega arith;
-            slot-low = next-below (P .frame .0) s (omega arith);
-            time-low = omega arith;
-            here = waits-on c s x 0 ((s + 1) % P .frame .0) hn hx q (rw next u) (λ a b. g (due-now c s hc hs a b .1));
-          })
-      go (no r) (yes e) (yes t) =
-          rw (clock-on P c (omega (arith, r)), slot-stays P c s r, mode-turns P w c s e t)
-          (record { clock-low = omega arith; slot-low = hs; time-low = omega arith; here = turns-about c s x hn hx q cap e t })
-      go (no r) (yes e) (no t) =
-          rw (clock-on P c (omega (arith, r)), slot-stays P c s r, mode-waits P w c s t)
-          (record { clock-low = omega arith; slot-low = hs; time-low = omega arith; here = stays (λ a. t) })
-      go (no r) (no n) b =
-          rw (clock-on P c (omega (arith, r)), slot-stays P c s r, mode-elsewhere P w c s n)
-          (record { clock-low = omega arith; slot-low = hs; time-low = omega arith; here = stays (λ a. absurd (n a)) })
+          ticked-good c s x Waiting false (clock-round P c r) (slot-moves P c s r) (mode-waits P w c s g) (omega arith) (next-below (P .frame .0) s (omega arith))
+          (waits-on c s x 0 ((s + 1) % P .frame .0) hn hx q (rw next u) (λ a b. g (due-now c s hc hs a b .1)))
+      go (no r) (yes e) (yes t) = within r (mode-turns P w c s e t) (turns-about c s x hn hx q short e t)
+      go (no r) (yes e) (no t) = within r (mode-waits P w c s t) (waits (λ a. t))
+      go (no r) (no n) b = within r (mode-elsewhere P w c s n) (waits (λ a. absurd (n a)))
 
-  tick-sends : (c s x : ℕ) → c < P .ticks .0 → s < P .frame .0 → x ≤ P .max .0 → P .min .0 ≤ x → Sends P f y w c s x
-      → Good P f y w (nodeTicked P w (stateOf c s x Sending false))
-  tick-sends c s x hc hs hx hn q = go (ℕ-discrete (c + P .tail .0 + 1) (P .ticks .0))
+  tick-sends : (c s x : ℕ) → s < P .frame .0 → x ≤ P .max .0 → P .min .0 ≤ x → Sends P f y w c s x → Good P f y w (nodeTicked P w (stateOf c s x Sending false))
+  tick-sends c s x hs hx hn q = go (ℕ-discrete (c + P .tail .0 + 1) (P .ticks .0))
     where
-      on : c + 1 < P .ticks .0
-      on = omega (arith, q .high, S .tail-low)
-
       live : Knows P f y w (c + 1) s 0
       live = let u : ticksFrom P (f .p) (c + 1) s ≡ ticksFrom P (f .p) c s + 1 = omega arith in rw u (live-tick hn hx (q .live))
 
+      within : {m : Mode} → modeAfter P w c s Sending ≡ m → Case P f y w (c + 1) s 0 m false → Good P f y w (nodeTicked P w (stateOf c s x Sending false))
+      within mode h =
+          let on : c + 1 < P .ticks .0 = omega (arith, q .high, S .tail-low) in
+          ticked-good c s x Sending false (clock-on P c on) (slot-sending P c s) mode on hs h
+
       go : Dec (c + P .tail .0 + 1 ≡ P .ticks .0) → Good P f y w (nodeTicked P w (stateOf c s x Sending false))
-      go (yes e) =
-          rw (clock-on P c on, slot-sending P c s, mode-ends P w c s e)
-          (record {
-            clock-low = on;
-            slot-low = hs;
-            time-low = omega arith;
-            here = record { live = live; before = λ a. absurd (not-next P f H w (q .mine) a) };
-          })
+      go (yes e) = within (mode-ends P w c s e) (record { live = live; before = λ a. absurd (not-next P f H w (q .mine) a) })
       go (no n) =
-          rw (clock-on P c on, slot-sending P c s, mode-sends P w c s n)
+          within (mode-sends P w c s n)
           (record {
-            clock-low = on;
-            slot-low = hs;
-            time-low = omega arith;
-            here =
-                record {
-                  live = live;
-                  message = q .message;
-                  mine = q .mine;
-                  place = q .place;
-                  low = omega (arith, q .low);
-                  high = omega (arith, q .high);
-                };
+            live = live;
+            message = q .message;
+            mine = q .mine;
+            place = q .place;
+            low = omega (arith, q .low);
+            high = omega (arith, q .high);
           })
 
   -- a tick keeps a node good, where it does not carry its count past slot D
@@ -181,7 +159,7 @@ module _ (P : Plan) (S : Sound P) (f : Phase) (H : Holds P f) (y w : ℕ) (hw : 
       go AboutToSend true short v = absurd v
       go AboutToSend false short v = absurd (omega (arith, v .zero, S .min-low))
       go Sending true short v = absurd v
-      go Sending false short v = tick-sends (a .clock .0) (a .slot .0) (a .time .0) (q .clock-low) (q .slot-low) (q .time-low) h v
+      go Sending false short v = tick-sends (a .clock .0) (a .slot .0) (a .time .0) (q .slot-low) (q .time-low) h v
 
 -- so does a delay, of a node that is not about to send
 module _ (P : Plan) (f : Phase) (y w d : ℕ) where

@@ -64,9 +64,15 @@ module _ (P : Plan) (S : Sound P) (A : RulesHold P) (r : Run) (y : ℕ) (v : Inv
   unfolding inRange
   in-range =
       and-both (allBelow (P .nodes .0) (λ i. nodeInRange P (node r i))) (lastInRange P (r .last))
-      (all-ever (P .nodes .0) (λ i. nodeInRange P (node r i)) (λ i h. rw (lt-ltb (node r i .clock .0) (P .ticks .0) (v .good i h .clock-low), lt-ltb (node r i .slot .0) (P .frame .0) (v .good i h .slot-low), le-leb (node r i .time .0) (P .max .0) (v .good i h .time-low))))
+      (all-ever (P .nodes .0) (λ i. nodeInRange P (node r i)) (λ i h. node-in (node r i) (v .good i h)))
       (last-in (r .last) (v .sent))
     where
+      node-in : {f : Phase} {w : ℕ} (a : NodeState) → Good P f y w a → nodeInRange P a ≡ true
+      node-in a q =
+          let clock = lt-ltb (a .clock .0) (P .ticks .0) (q .clock-low) in
+          let slot = lt-ltb (a .slot .0) (P .frame .0) (q .slot-low) in
+          rw (clock, slot, le-leb (a .time .0) (P .max .0) (q .time-low))
+
       last-in : (l : Last) → Sent P l → lastInRange P l ≡ true
       last-in (At q) h = lt-ltb (q .0) (P .frame .0) (rw (h .slot) at (own-in-frame P S (h .by) (h .below)))
       last-in Nothing h = refl
