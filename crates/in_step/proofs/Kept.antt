@@ -40,7 +40,7 @@ module _ (P : Plan) (S : Sound P) (A : RulesHold P) where
       all-short P S f (due .holds) y i (n .by) (node r i) h turn (v .good i h) e
 
   -- one node replaced by a good one
-  inv-at : (r r′ : Run) (y i : ℕ) → length (r′ .nodes) ≡ length (r .nodes) → r′ .last ≡ r .last → ((j : ℕ) → j ≢ i → node r′ j ≡ node r j)
+  pub inv-at : (r r′ : Run) (y i : ℕ) → length (r′ .nodes) ≡ length (r .nodes) → r′ .last ≡ r .last → ((j : ℕ) → j ≢ i → node r′ j ≡ node r j)
       → Good P (phaseOf P (r .last)) y (own P i) (node r′ i) → Inv P r y → Inv P r′ y
   inv-at r r′ y i room last still g v = record { room = rw room (v .room); sent = rw last (v .sent); good = λ j h. rw last (good j h (ℕ-discrete j i)) }
     where
@@ -48,7 +48,7 @@ module _ (P : Plan) (S : Sound P) (A : RulesHold P) where
       good j h (yes e) = rw e g
       good j h (no n) = rw (still j n) (v .good j h)
 
-  inv-tick : (r : Run) (y i : ℕ) → Inv P r y → TickLegal P r i → Inv P (ticked P i r) y
+  pub inv-tick : (r : Run) (y i : ℕ) → Inv P r y → TickLegal P r i → Inv P (ticked P i r) y
   inv-tick r y i v l =
       let H = due-of P S A (r .last) (v .sent) .holds in
       let good = tick-good P S (phaseOf P (r .last)) H y (own P i) (own-in-frame P S i (l .below)) (node r i) (l .ripe) (short-of r y v i (l .below)) (v .good i (l .below)) in
@@ -56,7 +56,7 @@ module _ (P : Plan) (S : Sound P) (A : RulesHold P) where
       (rw (node-ticked P r i (omega (arith, l .below, v .room))) good)
       v
 
-  inv-delay : (r : Run) (y d : ℕ) → Inv P r y → DelayLegal P r d → Inv P (delayed P d r) (y + d)
+  pub inv-delay : (r : Run) (y d : ℕ) → Inv P r y → DelayLegal P r d → Inv P (delayed P d r) (y + d)
   inv-delay r y d v l =
       record {
         room = rw (room-moved P r (Delay (record { 0 = d }))) (v .room);
@@ -67,7 +67,7 @@ module _ (P : Plan) (S : Sound P) (A : RulesHold P) where
             (delay-good P (phaseOf P (r .last)) y (own P i) d (node r i) (l .none-about i h) (l .within i h) (v .good i h));
       }
 
-  inv-send : (r : Run) (y i : ℕ) → Inv P r y → SendLegal P r i → Inv P (sent P i r) 0
+  pub inv-send : (r : Run) (y i : ℕ) → Inv P r y → SendLegal P r i → Inv P (sent P i r) 0
   inv-send r y i v l =
       record {
         room = rw (room-moved P r (SendOf (record { 0 = i }))) (v .room);

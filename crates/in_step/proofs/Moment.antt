@@ -34,7 +34,7 @@ pub record Gathered (P : Plan) (w : ℕ) (a : NodeState) : Type 0 where
 
 module _ (P : Plan) (S : Sound P) (f : Phase) (H : Holds P f) (y : ℕ) where
   -- a node about to send has counted to its turn
-  about-live : (w : ℕ) (a : NodeState) → AboutsOf P f y w a
+  pub about-live : (w : ℕ) (a : NodeState) → AboutsOf P f y w a
       → Live (P .min .0) (P .max .0) (f .o) (f .lead w) (distance (P .frame .0) (f .p) w * P .ticks .0 + P .guard .0) y 0
   about-live w a q = rw (q .place, q .turn, q .zero) at (q .live)
 
@@ -54,19 +54,19 @@ module _ (P : Plan) (S : Sound P) (f : Phase) (H : Holds P f) (y : ℕ) where
       go Sending true v = absurd v
       go Sending false v = absurd (not-next P f H (own P m) (v .mine) e)
 
-  about-turn : (m : ℕ) (a : NodeState) → m < P .nodes .0 → AboutsOf P f y (own P m) a → Turn P f y m (distance (P .frame .0) (f .p) (own P m))
+  pub about-turn : (m : ℕ) (a : NodeState) → m < P .nodes .0 → AboutsOf P f y (own P m) a → Turn P f y m (distance (P .frame .0) (f .p) (own P m))
   about-turn m a h q =
       let l = about-live (own P m) a q in
       record { below = h; away = refl; ahead = q .ahead; within = q .within; most = omega (arith, l .most) }
 
   -- up to a turn every other node that counts is short of the last tick of that slot
-  others-short : (i m d : ℕ) (a : NodeState) → i < P .nodes .0 → i ≢ m → Turn P f y m d → KnowsOf P f y (own P i) a → Short P f d a
+  pub others-short : (i m d : ℕ) (a : NodeState) → i < P .nodes .0 → i ≢ m → Turn P f y m d → KnowsOf P f y (own P i) a → Short P f d a
   others-short i m d a h n t v =
       let ahead : 1 ≤ distance (P .frame .0) (f .p) (own P m) = omega (arith, t .away, t .ahead) in
       rule2-keeps (P .min .0) (P .max .0) (f .z) (d * P .ticks .0) (P .ticks .0) (P .guard .0) v (H .rule2 d (t .within)) (H .spared i m h (t .below) n ahead) (t .most)
 
   -- and so is the node whose turn is next
-  due-short : (w : ℕ) (a : NodeState) (m : Mode) → distance (P .frame .0) (f .p) w ≡ f .D → CaseOf P f y w a m false → Short P f (f .D) a
+  pub due-short : (w : ℕ) (a : NodeState) (m : Mode) → distance (P .frame .0) (f .p) w ≡ f .D → CaseOf P f y w a m false → Short P f (f .D) a
   due-short w a Waiting e v = omega (arith, v .before e, S .guard-tail)
   due-short w a AboutToSend e v =
       let u : ticksOf P f a ≡ f .D * P .ticks .0 + P .guard .0 = rw (v .place, v .turn, e) in

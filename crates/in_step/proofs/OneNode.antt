@@ -43,7 +43,7 @@ not-next P f H w e q = omega (arith, away-none P (f .p) w (H .start) e, H .one)
 
 module _ (P : Plan) (S : Sound P) (f : Phase) (H : Holds P f) (y w : ℕ) (hw : w < P .frame .0) where
   -- a node after a tick, by the outcomes of its clock, slot and mode
-  ticked-good : (c s x : ℕ) (m : Mode) (b : Bool) {c′ s′ : ℕ} {m′ : Mode} → clockAfter P b c ≡ c′ → slotAfter P c s m ≡ s′ → modeAfter P w c s m ≡ m′ → c′ < P .ticks .0 → s′ < P .frame .0
+  pub ticked-good : (c s x : ℕ) (m : Mode) (b : Bool) {c′ s′ : ℕ} {m′ : Mode} → clockAfter P b c ≡ c′ → slotAfter P c s m ≡ s′ → modeAfter P w c s m ≡ m′ → c′ < P .ticks .0 → s′ < P .frame .0
       → Case P f y w c′ s′ 0 m′ false → Good P f y w (nodeTicked P w (stateOf c s x m b))
   ticked-good c s x m b clock slot mode hc hs h = rw (clock, slot, mode) (record { clock-low = hc; slot-low = hs; time-low = omega arith; here = h })
 
@@ -61,7 +61,7 @@ module _ (P : Plan) (S : Sound P) (f : Phase) (H : Holds P f) (y w : ℕ) (hw : 
       })
 
   -- the node's turn comes with the tick that counts to D slots and g ticks
-  due-now : (c s : ℕ) → c < P .ticks .0 → s < P .frame .0 → distance (P .frame .0) (f .p) w ≡ f .D → ticksFrom P (f .p) c s + 1 ≡ f .D * P .ticks .0 + P .guard .0
+  pub due-now : (c s : ℕ) → c < P .ticks .0 → s < P .frame .0 → distance (P .frame .0) (f .p) w ≡ f .D → ticksFrom P (f .p) c s + 1 ≡ f .D * P .ticks .0 + P .guard .0
       → (s ≡ w) × (c + 1 ≡ P .guard .0)
   due-now c s hc hs e q =
       let d = distance (P .frame .0) (f .p) s in
@@ -72,7 +72,7 @@ module _ (P : Plan) (S : Sound P) (f : Phase) (H : Holds P f) (y w : ℕ) (hw : 
       (distance-same (P .frame .0) (f .p) s w (H .start) hs hw (same ∙ sym e), omega arith)
 
   -- a counted tick that stays waiting
-  waits-on : (c s x c′ s′ : ℕ) → P .min .0 ≤ x → x ≤ P .max .0 → Waits P f y w c s x → ticksFrom P (f .p) c′ s′ ≡ ticksFrom P (f .p) c s + 1
+  pub waits-on : (c s x c′ s′ : ℕ) → P .min .0 ≤ x → x ≤ P .max .0 → Waits P f y w c s x → ticksFrom P (f .p) c′ s′ ≡ ticksFrom P (f .p) c s + 1
       → (distance (P .frame .0) (f .p) w ≡ f .D → ticksFrom P (f .p) c s + 1 ≢ f .D * P .ticks .0 + P .guard .0) → Waits P f y w c′ s′ 0
   waits-on c s x c′ s′ hn hx q e n =
       record {
@@ -81,7 +81,7 @@ module _ (P : Plan) (S : Sound P) (f : Phase) (H : Holds P f) (y w : ℕ) (hw : 
       }
 
   -- a tick that makes the node about to send: its slot lies ahead of p, and no farther than D
-  turns-about : (c s x : ℕ) → P .min .0 ≤ x → x ≤ P .max .0 → Waits P f y w c s x → ticksFrom P (f .p) c s + 1 < f .D * P .ticks .0 + P .ticks .0 → s ≡ w → c + 1 ≡ P .guard .0
+  pub turns-about : (c s x : ℕ) → P .min .0 ≤ x → x ≤ P .max .0 → Waits P f y w c s x → ticksFrom P (f .p) c s + 1 < f .D * P .ticks .0 + P .ticks .0 → s ≡ w → c + 1 ≡ P .guard .0
       → Abouts P f y w (c + 1) s 0
   turns-about c s x hn hx q short e t =
       let d = distance (P .frame .0) (f .p) in

@@ -45,14 +45,14 @@ sends-here P f y w a e q = go (a .mode) (a .pending) e (q .here)
 
 module _ (P : Plan) (S : Sound P) (A : RulesHold P) (r : Run) (y : ℕ) (v : Inv P r y) where
   -- while a node sends every node is in its slot
-  together : (i j : ℕ) → i < P .nodes .0 → j < P .nodes .0 → isSending (node r i .mode) ≡ true → node r j .slot .0 ≡ node r i .slot .0
+  pub together : (i j : ℕ) → i < P .nodes .0 → j < P .nodes .0 → isSending (node r i .mode) ≡ true → node r j .slot .0 ≡ node r i .slot .0
   together i j hi hj e =
       let f = phaseOf P (r .last) in
       let H = due-of P S A (r .last) (v .sent) .holds in
       let sends = sends-here P f y (own P i) (node r i) e (v .good i hi) in
       all-here P S f H y (own P i) (own P j) (node r i) (node r j) (v .good i hi .time-low) sends (v .good j hj) ∙ sym (sends .place)
 
-  never-11 : outOfStep P r ≡ false
+  pub never-11 : outOfStep P r ≡ false
   unfolding outOfStep sendsApart
   never-11 = any-never (P .nodes .0) (sendsApart P r) (λ i h. go i h (isSending (node r i .mode)) refl)
     where
@@ -60,7 +60,7 @@ module _ (P : Plan) (S : Sound P) (A : RulesHold P) (r : Run) (y : ℕ) (v : Inv
       go i h true e = rw e (any-never (P .nodes .0) (elsewhere r i) (λ j l. rw (eq-eqb (node r j .slot .0) (node r i .slot .0) (together i j h l e))))
       go i h false e = rw e
 
-  in-range : inRange P r ≡ true
+  pub in-range : inRange P r ≡ true
   unfolding inRange
   in-range =
       and-both (allBelow (P .nodes .0) (λ i. nodeInRange P (node r i))) (lastInRange P (r .last))
@@ -77,17 +77,17 @@ module _ (P : Plan) (S : Sound P) (A : RulesHold P) (r : Run) (y : ℕ) (v : Inv
       last-in (At q) h = lt-ltb (q .0) (P .frame .0) (rw (h .slot) at (own-in-frame P S (h .by) (h .below)))
       last-in Nothing h = refl
 
-  counts : (i : ℕ) → i < P .nodes .0 → Counts P (r .last) y (node r i)
+  pub counts : (i : ℕ) → i < P .nodes .0 → Counts P (r .last) y (node r i)
   counts i h = counts-of P S A y (own P i) (node r i) (r .last) (v .sent) (short-of P S A r y v i h) (v .good i h)
 
-  answered : planNumber P ≡ 0 → (i : ℕ) → i < P .nodes .0 → reckonedOf P r i ≡ Ticks (reckoning P (r .last) (node r i))
+  pub answered : planNumber P ≡ 0 → (i : ℕ) → i < P .nodes .0 → reckonedOf P r i ≡ Ticks (reckoning P (r .last) (node r i))
   unfolding reckonedOf reckonedTested reckoningNumber
   answered e i h =
       let rows = off-all (given run-outside (not (inRange P r)) ∷ given node-unknown (leb (P .nodes .0) i) ∷ given reckoning-below-0 (belowZero P (r .last) (node r i)) ∷ [])
       (ap not in-range, (lt-leb (P .nodes .0) i h, (counts i h .whole, tt))) in
       rw (eq-eqb (planNumber P) 0 e, eq-eqb (reckoningNumber P r i) 0 rows)
 
-  reckons : planNumber P ≡ 0 → (i : ℕ) → i < P .nodes .0 → Reckons P r y i
+  pub reckons : planNumber P ≡ 0 → (i : ℕ) → i < P .nodes .0 → Reckons P r y i
   reckons e i h =
       let n = counts i h in
       record { c = reckoning P (r .last) (node r i); answered = answered e i h; most = n .most; least = n .least }
