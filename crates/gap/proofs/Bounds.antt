@@ -1,5 +1,5 @@
 -- How long M can be: 1 to C − 1, and to C − 2 with three senders.
-use Prim.Native.Nat.{ℕ, _+_, _-_, _≤_, _<_}
+use Prim.Native.Nat.{ℕ, _-_, _≤_, _<_}
 use mathlib.Core.Path.{_≡_, sym, _∙_}
 use mathlib.Core.Logic.{_≢_}
 use native.Mathlib.Omega.{arith}
@@ -11,7 +11,6 @@ use Rattle.plan.specs.Sending.{own}
 use Rattle.plan.specs.Tested.{Sound}
 use Rattle.plan.proofs.Sound.{own-in-frame}
 use Rattle.gap.specs.Gap.{predecessor, gapFor, gapOf}
-use Rattle.gap.proofs.Facts.{NextAt, Before}
 use Rattle.gap.proofs.Others.{third}
 use Rattle.gap.proofs.Back.{before-own}
 

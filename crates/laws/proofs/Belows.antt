@@ -1,8 +1,7 @@
 -- Laws of the questions about the numbers below n.
 use Prim.Native.Nat.{ℕ, zero, suc, _+_, _≤_, _<_, min, max}
-use mathlib.Core.Path.{_≡_, refl, sym, ap, _∙_}
-use mathlib.Core.Logic.{_≢_}
-use mathlib.Core.Bool.{Bool, true, false, _&&_, _||_}
+use mathlib.Core.Path.{_≡_, refl}
+use mathlib.Core.Bool.{Bool, true, false}
 use native.Mathlib.Nat.{not-suc-le-zero}
 use native.Mathlib.Numerals.{add-one}
 use native.Mathlib.Decide.{ℕ-discrete, decLe, decLt}
@@ -10,7 +9,7 @@ use native.Mathlib.Omega.{arith}
 use borrow.Author.Tests.{ltb-true, ltb-false}
 use lib.Dec.{ltb}
 use Rattle.laws.specs.Below.{anyBelow, allBelow, firstFrom, firstBelow, largestBelow, leastBelow}
-use Rattle.laws.proofs.Bools.{clash, and-true-left, and-true-right, and-both, or-false-left, or-false-right, or-neither, or-true-left, or-true-right, Either, first-holds, second-holds, or-either}
+use Rattle.laws.proofs.Bools.{clash, and-true-left, and-true-right, and-both, or-neither, or-true-left, or-true-right, Either, first-holds, second-holds, or-either}
 
 -- some number passes
 
@@ -177,6 +176,12 @@ largest-within (suc n) f b h =
     let z : largestBelow n f ≤ b = largest-within n f b (λ i l. h i (omega arith)) in
     let w : f n ≤ b = h n (omega arith) in
     omega arith
+
+-- equal values, equal largest
+pub largest-same : (n : ℕ) (f g : ℕ → ℕ) → ((i : ℕ) → i < n → f i ≡ g i) → largestBelow n f ≡ largestBelow n g
+unfolding largestBelow
+largest-same zero f g h = refl
+largest-same (suc n) f g h = rw (largest-same n f g (λ i l. h i (omega arith)), h n (omega arith))
 
 -- a number at which the largest value stands
 pub record Reached (n : ℕ) (f : ℕ → ℕ) (v : ℕ) : Type 0 where
