@@ -1,9 +1,9 @@
 -- Document 01's starred numbers, as one table, and what it means that its rows are right.
-use Prim.Native.Nat.{ℕ, zero, suc}
+use Prim.Native.Nat.{ℕ}
 use mathlib.Core.Path.{_≡_}
 use mathlib.Core.List.{List, [], _∷_}
 use Rattle.plan.specs.declared.Plan.{Plan}
-use Rattle.plan.specs.declared.Slot.{Slot}
+use Rattle.plan.specs.Numbers.{planBy, slotsFrom}
 use Rattle.rules.specs.declared.Rule.{Rule}
 use Rattle.rules.specs.declared.Rule.the-variants.{One, Two, Three}
 use Rattle.rules.specs.declared.Sides.{Sides}
@@ -12,25 +12,9 @@ use Rattle.rules.specs.declared.Outcome.the-variants.{Accepted, Fails}
 use Rattle.rules.specs.declared.Judged.the-variants.{Gives}
 use Rattle.rules.specs.Rules.{sidesAt, verdictOf, judgedOf}
 
--- Sending slots from s on, one after the other.
-abbrev pub slotsFrom : (s count : ℕ) → List Slot
-slotsFrom s zero = []
-slotsFrom s (suc count) = record { 0 = s } ∷ slotsFrom (suc s) count
-
 -- The plan with these numbers and slots 0, 1, 2, ..
 abbrev pub planWith : (N C n k0 g t shortest longest : ℕ) → Plan
-planWith N C n k0 g t shortest longest =
-    record {
-      nodes = record { 0 = N };
-      frame = record { 0 = C };
-      active = record { 0 = n };
-      ticks = record { 0 = k0 };
-      guard = record { 0 = g };
-      tail = record { 0 = t };
-      min = record { 0 = shortest };
-      max = record { 0 = longest };
-      slots = slotsFrom 0 N;
-    }
+planWith N C n k0 g t shortest longest = planBy N C n k0 g t shortest longest (slotsFrom 0 N)
 
 -- The two sides of a rule, where document 01 gives them.
 pub record Stated : Type 0 where

@@ -9,7 +9,7 @@ use Rattle.laws.specs.Below.{anyBelow, allBelow, firstFrom, largestBelow, least
 use Rattle.laws.specs.Over.{over}
 use Rattle.laws.specs.Ring.{distance}
 use Rattle.plan.specs.declared.Plan.{Plan}
-use Rattle.plan.specs.declared.Slot.{Slot}
+use Rattle.plan.specs.Numbers.{planBy, slots}
 use Rattle.plan.specs.Sending.{sends}
 use Rattle.plan.specs.Tested.{activeOutside, guardOrTailWrong, minOrMaxWrong, someNotActive, sharesSlot, someShared, planNumber}
 use Rattle.gap.specs.Gap.{nearest, predecessor, gapAt, gapOf}
@@ -21,23 +21,6 @@ use Rattle.run.specs.Moves.{clockAfter, modeAfter, slotAfter}
 use Rattle.run.specs.Steps.{stepNumber}
 use Rattle.shown.specs.Parts.{predecessorAt, widestFrom, widestNode, partsFor}
 use Rattle.shown.specs.Shown.{freshPlace, dueTime, pastDue, goesFirst, goesSecond, nextStep, markAfter, givenBy, givenFor, givenOf, shownSteps}
-
-slot : ℕ → Slot
-slot s = record { 0 = s }
-
-planOf : (N C n k0 g t shortest longest : ℕ) → List Slot → Plan
-planOf N C n k0 g t shortest longest slots =
-    record {
-      nodes = record { 0 = N };
-      frame = record { 0 = C };
-      active = record { 0 = n };
-      ticks = record { 0 = k0 };
-      guard = record { 0 = g };
-      tail = record { 0 = t };
-      min = record { 0 = shortest };
-      max = record { 0 = longest };
-      slots = slots;
-    }
 
 D : ℕ → Step
 D n = Delay (record { 0 = n })
@@ -59,35 +42,29 @@ shown P steps = record { plan = P; steps = steps }
 worked : List Shown
 worked =
     -- document 01's listing: rule 1 with p = 0
-    shown (planOf 3 3 3 5 1 2 1 1 (slot 0 ∷ slot 1 ∷ slot 2 ∷ []))
+    shown (planBy 3 3 3 5 1 2 1 1 (slots (0 ∷ 1 ∷ 2 ∷ [])))
     (D 1 ∷ T 2 ∷ T 0 ∷ S 0 ∷ T 1 ∷ D 1 ∷ T 1 ∷ T 0 ∷ T 2 ∷ D 1 ∷ T 1 ∷ T 0 ∷ T 2 ∷ D 1 ∷ T 1 ∷ T 0 ∷ T 2 ∷ D 1 ∷ T 1 ∷ S 1 ∷ [])
     -- rule 1: the fast node leaves slot 0 while the sender of p still sends
-    ∷ shown (planOf 3 3 3 4 1 1 2 5 (slot 1 ∷ slot 0 ∷ slot 2 ∷ []))
+    ∷ shown (planBy 3 3 3 4 1 1 2 5 (slots (1 ∷ 0 ∷ 2 ∷ [])))
     (D 2 ∷ T 2 ∷ T 1 ∷ S 1 ∷ T 0 ∷ D 2 ∷ T 0 ∷ D 2 ∷ T 0 ∷ [])
     -- rule 1 with p = 1 and equal sides: with the slow node first it would miss
-    ∷ shown (planOf 3 5 4 5 1 2 2 2 (slot 0 ∷ slot 1 ∷ slot 3 ∷ []))
+    ∷ shown (planBy 3 5 4 5 1 2 2 2 (slots (0 ∷ 1 ∷ 3 ∷ [])))
     (D 2 ∷ T 1 ∷ T 2 ∷ T 0 ∷ S 0 ∷ D 2 ∷ T 0 ∷ T 1 ∷ T 2 ∷ D 2 ∷ T 0 ∷ T 1 ∷ T 2 ∷ D 2 ∷ T 0 ∷ T 1 ∷ T 2 ∷ D 2 ∷ T 0 ∷ T 1 ∷ T 2 ∷ D 2 ∷ T 0 ∷
     T 1 ∷ S 1 ∷ T 2 ∷ D 2 ∷ T 2 ∷ T 0 ∷ T 1 ∷ D 2 ∷ T 2 ∷ T 0 ∷ T 1 ∷ D 2 ∷ T 2 ∷ T 0 ∷ T 1 ∷ D 2 ∷ T 2 ∷ T 0 ∷ T 1 ∷ D 2 ∷ T 2 ∷ T 0 ∷ T 1 ∷
     D 2 ∷ T 2 ∷ T 0 ∷ T 1 ∷ D 2 ∷ T 2 ∷ T 0 ∷ T 1 ∷ D 2 ∷ T 2 ∷ T 0 ∷ T 1 ∷ D 2 ∷ T 2 ∷ S 2 ∷ [])
     -- rule 2 with its tail: the fast node is pending at its last tick in s
-    ∷ shown (planOf 3 3 3 8 5 1 3 6 (slot 1 ∷ slot 2 ∷ slot 0 ∷ []))
-    (D 3 ∷ T 0 ∷ T 1 ∷ T 2 ∷ D 3 ∷ T 0 ∷ T 1 ∷ T 2 ∷ D 3 ∷ T 0 ∷ T 1 ∷ T 2 ∷ D 3 ∷ T 0 ∷ T 1 ∷ T 2 ∷ D 3 ∷ T 0 ∷ T 2 ∷ S 2 ∷ T 1 ∷ D 3 ∷ T 1 ∷
-    D 3 ∷ T 1 ∷ [])
+    ∷ shown (planBy 3 3 3 7 3 2 3 4 (slots (2 ∷ 1 ∷ 0 ∷ [])))
+    (D 3 ∷ T 0 ∷ T 1 ∷ T 2 ∷ D 3 ∷ T 0 ∷ T 1 ∷ T 2 ∷ D 3 ∷ T 1 ∷ T 2 ∷ S 2 ∷ T 0 ∷ D 3 ∷ T 0 ∷ D 1 ∷ T 1 ∷ T 2 ∷ D 2 ∷ T 0 ∷ D 2 ∷ T 1 ∷ T 2 ∷ D 1 ∷ T 0 ∷ D 3 ∷ T 0 ∷ T 1 ∷ T 2 ∷ D 3 ∷ T 0 ∷ D 1 ∷ T 1 ∷ T 2 ∷ D 2 ∷ T 0 ∷ D 2 ∷ T 1 ∷ T 2 ∷ D 1 ∷ T 0 ∷ D 3 ∷ T 0 ∷ T 1 ∷ T 2 ∷ D 3 ∷ T 0 ∷ D 1 ∷ T 1 ∷ S 1 ∷ T 2 ∷ D 2 ∷ T 0 ∷ [])
     -- rule 2 without its tail: the fast node has left s when the sender of s sends
-    ∷ shown (planOf 3 3 3 7 3 2 7 10 (slot 1 ∷ slot 0 ∷ slot 2 ∷ []))
+    ∷ shown (planBy 3 3 3 7 3 2 7 10 (slots (1 ∷ 0 ∷ 2 ∷ [])))
     (D 7 ∷ T 0 ∷ T 1 ∷ T 2 ∷ D 7 ∷ T 0 ∷ T 1 ∷ T 2 ∷ D 7 ∷ T 0 ∷ T 1 ∷ S 1 ∷ T 2 ∷ D 7 ∷ T 2 ∷ D 3 ∷ T 0 ∷ T 1 ∷ D 4 ∷ T 2 ∷ D 6 ∷ T 0 ∷ T 1 ∷
     D 1 ∷ T 2 ∷ D 7 ∷ T 2 ∷ D 2 ∷ T 0 ∷ T 1 ∷ D 5 ∷ T 2 ∷ D 5 ∷ T 0 ∷ T 1 ∷ D 2 ∷ T 2 ∷ D 7 ∷ T 2 ∷ D 1 ∷ T 0 ∷ T 1 ∷ D 6 ∷ T 2 ∷ D 4 ∷ T 0 ∷
     T 1 ∷ D 3 ∷ T 2 ∷ D 7 ∷ T 2 ∷ T 0 ∷ S 0 ∷ [])
     -- rule 2 with p = 1, equal sides and its tail
-    ∷ shown (planOf 3 5 5 7 3 2 7 8 (slot 0 ∷ slot 1 ∷ slot 3 ∷ []))
-    (D 7 ∷ T 0 ∷ T 1 ∷ T 2 ∷ D 7 ∷ T 0 ∷ T 1 ∷ T 2 ∷ D 7 ∷ T 1 ∷ T 2 ∷ T 0 ∷ S 0 ∷ D 7 ∷ T 0 ∷ T 1 ∷ T 2 ∷ D 7 ∷ T 0 ∷ T 1 ∷ T 2 ∷ D 7 ∷ T 0 ∷
-    T 1 ∷ T 2 ∷ D 7 ∷ T 0 ∷ T 1 ∷ T 2 ∷ D 7 ∷ T 0 ∷ T 1 ∷ T 2 ∷ D 7 ∷ T 0 ∷ T 1 ∷ T 2 ∷ D 7 ∷ T 2 ∷ T 1 ∷ S 1 ∷ T 0 ∷ D 7 ∷ T 0 ∷ D 1 ∷ T 1 ∷
-    T 2 ∷ D 6 ∷ T 0 ∷ D 2 ∷ T 1 ∷ T 2 ∷ D 5 ∷ T 0 ∷ D 3 ∷ T 1 ∷ T 2 ∷ D 4 ∷ T 0 ∷ D 4 ∷ T 1 ∷ T 2 ∷ D 3 ∷ T 0 ∷ D 5 ∷ T 1 ∷ T 2 ∷ D 2 ∷ T 0 ∷
-    D 6 ∷ T 1 ∷ T 2 ∷ D 1 ∷ T 0 ∷ D 7 ∷ T 0 ∷ T 1 ∷ T 2 ∷ D 7 ∷ T 0 ∷ D 1 ∷ T 1 ∷ T 2 ∷ D 6 ∷ T 0 ∷ D 2 ∷ T 1 ∷ T 2 ∷ D 5 ∷ T 0 ∷ D 3 ∷ T 1 ∷
-    T 2 ∷ D 4 ∷ T 0 ∷ D 4 ∷ T 1 ∷ T 2 ∷ D 3 ∷ T 0 ∷ D 5 ∷ T 1 ∷ T 2 ∷ D 2 ∷ T 0 ∷ D 6 ∷ T 1 ∷ T 2 ∷ D 1 ∷ T 0 ∷ D 7 ∷ T 0 ∷ T 1 ∷ T 2 ∷ S 2 ∷
-    D 7 ∷ T 0 ∷ [])
+    ∷ shown (planBy 3 5 5 7 3 2 7 8 (slots (3 ∷ 1 ∷ 0 ∷ [])))
+    (D 7 ∷ T 0 ∷ T 1 ∷ T 2 ∷ D 7 ∷ T 0 ∷ T 1 ∷ T 2 ∷ D 7 ∷ T 0 ∷ T 1 ∷ T 2 ∷ S 2 ∷ D 7 ∷ T 0 ∷ T 1 ∷ T 2 ∷ D 7 ∷ T 0 ∷ T 1 ∷ T 2 ∷ D 7 ∷ T 0 ∷ T 1 ∷ T 2 ∷ D 7 ∷ T 0 ∷ T 1 ∷ T 2 ∷ D 7 ∷ T 0 ∷ T 1 ∷ T 2 ∷ D 7 ∷ T 0 ∷ T 1 ∷ T 2 ∷ D 7 ∷ T 0 ∷ T 1 ∷ S 1 ∷ T 2 ∷ D 7 ∷ T 2 ∷ D 1 ∷ T 0 ∷ T 1 ∷ D 6 ∷ T 2 ∷ D 2 ∷ T 0 ∷ T 1 ∷ D 5 ∷ T 2 ∷ D 3 ∷ T 0 ∷ T 1 ∷ D 4 ∷ T 2 ∷ D 4 ∷ T 0 ∷ T 1 ∷ D 3 ∷ T 2 ∷ D 5 ∷ T 0 ∷ T 1 ∷ D 2 ∷ T 2 ∷ D 6 ∷ T 0 ∷ T 1 ∷ D 1 ∷ T 2 ∷ D 7 ∷ T 2 ∷ T 0 ∷ T 1 ∷ D 7 ∷ T 2 ∷ D 1 ∷ T 0 ∷ T 1 ∷ D 6 ∷ T 2 ∷ D 2 ∷ T 0 ∷ T 1 ∷ D 5 ∷ T 2 ∷ D 3 ∷ T 0 ∷ T 1 ∷ D 4 ∷ T 2 ∷ D 4 ∷ T 0 ∷ T 1 ∷ D 3 ∷ T 2 ∷ D 5 ∷ T 0 ∷ T 1 ∷ D 2 ∷ T 2 ∷ D 6 ∷ T 0 ∷ T 1 ∷ D 1 ∷ T 2 ∷ D 7 ∷ T 2 ∷ T 0 ∷ S 0 ∷ T 1 ∷ D 7 ∷ T 2 ∷ [])
     -- rule 3, with the sender of slot 0 last in number order
-    ∷ shown (planOf 3 3 3 5 2 1 11 13 (slot 1 ∷ slot 2 ∷ slot 0 ∷ []))
+    ∷ shown (planBy 3 3 3 5 2 1 11 13 (slots (1 ∷ 2 ∷ 0 ∷ [])))
     (D 11 ∷ T 0 ∷ T 1 ∷ T 2 ∷ D 11 ∷ T 1 ∷ T 2 ∷ S 2 ∷ T 0 ∷ D 11 ∷ T 0 ∷ D 2 ∷ T 1 ∷ T 2 ∷ D 9 ∷ T 0 ∷ [])
     ∷ []
 
@@ -97,5 +74,5 @@ Right [] = Unit {0}
 Right (w ∷ more) = (shownSteps (w .plan) (length (w .steps) + 10) freshPlace ≡ w .steps) × Right more
 
 worked-right : Right worked
-unfolding slot planOf D T S shown worked Right firstOf anyBelow allBelow firstFrom largestBelow leastBelow over distance sends activeOutside guardOrTailWrong minOrMaxWrong someNotActive sharesSlot someShared planNumber nearest predecessor gapAt gapOf sidesAt outcomeBy verdictAt verdictOf freshRun inRange sendsApart outOfStep clockAfter modeAfter slotAfter stepNumber predecessorAt widestFrom widestNode partsFor freshPlace dueTime pastDue goesFirst goesSecond nextStep markAfter givenBy givenFor givenOf
+unfolding D T S shown worked Right firstOf anyBelow allBelow firstFrom largestBelow leastBelow over distance sends activeOutside guardOrTailWrong minOrMaxWrong someNotActive sharesSlot someShared planNumber nearest predecessor gapAt gapOf sidesAt outcomeBy verdictAt verdictOf freshRun inRange sendsApart outOfStep clockAfter modeAfter slotAfter stepNumber predecessorAt widestFrom widestNode partsFor freshPlace dueTime pastDue goesFirst goesSecond nextStep markAfter givenBy givenFor givenOf
 worked-right = (refl, (refl, (refl, (refl, (refl, (refl, (refl, tt)))))))
