@@ -1,16 +1,9 @@
 -- The next sending slot after any slot p: it is there, nothing sends nearer, and it is at most M away.
 use Prim.Native.Nat.{ℕ, zero, suc, _+_, _-_, _%_, _≤_, _<_}
-<<<<<<< HEAD
 use mathlib.Core.Path.{_≡_, refl, sym, _∙_}
 use mathlib.Core.Logic.{_≢_}
 use mathlib.Core.Bool.{Bool, true, false}
 use native.Mathlib.Nat.{mod-eq-of-lt, mod-lt}
-=======
-use mathlib.Core.Path.{_≡_, refl, sym, ap, _∙_}
-use mathlib.Core.Logic.{_≢_}
-use mathlib.Core.Bool.{Bool, true, false}
-use native.Mathlib.Nat.{mod-eq-of-lt, mod-lt, not-suc-le-zero}
->>>>>>> wa
 use native.Mathlib.Decide.{decLe, decLt, ℕ-discrete}
 use native.Mathlib.Omega.{arith}
 use Rattle.laws.specs.Below.{firstFrom}
@@ -21,17 +14,10 @@ use Rattle.laws.proofs.Ring.{Reaches, on, round, mod-once, distance-reaches, di
 use Rattle.plan.specs.declared.Plan.{Plan}
 use Rattle.plan.specs.Sending.{own, sends}
 use Rattle.plan.specs.Tested.{Sound}
-<<<<<<< HEAD
 use Rattle.plan.proofs.Sound.{sends-by, own-sends, own-in-frame}
 use Rattle.gap.specs.Gap.{predecessor, gapFor, gapOf, slotsToNext}
 use Rattle.gap.proofs.Facts.{NextAt}
 use Rattle.gap.proofs.Others.{other}
-=======
-use Rattle.plan.proofs.Sound.{Sender, sends-by, own-sends, own-in-frame}
-use Rattle.gap.specs.Gap.{predecessor, gapFor, gapOf, slotsToNext}
-use Rattle.gap.proofs.Facts.{NextAt, Before}
-use Rattle.gap.proofs.Others.{Other, other}
->>>>>>> wa
 use Rattle.gap.proofs.Back.{before-own}
 
 -- what a search forward from i finds, where it is known that it finds something

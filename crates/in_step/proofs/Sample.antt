@@ -10,7 +10,7 @@ use Rattle.laws.specs.Ring.{distance}
 use Rattle.laws.proofs.Bools.{clash, and-true-left, and-true-right}
 use Rattle.plan.specs.declared.Plan.{Plan}
 use Rattle.plan.specs.Sending.{sends}
-use Rattle.plan.specs.Tested.{planNumber, sharesSlot}
+use Rattle.plan.specs.Tested.{activeOutside, guardOrTailWrong, minOrMaxWrong, someNotActive, sharesSlot, someShared, planNumber}
 use Rattle.gap.specs.Gap.{nearest, predecessor, gapAt, gapOf}
 use Rattle.rules.specs.declared.Outcome.the-variants.{Accepted}
 use Rattle.rules.specs.Rules.{sidesAt, outcomeBy, verdictAt, verdictOf}
@@ -44,7 +44,7 @@ sample =
     }
 
 pub let-through : planNumber sample ≡ 0
-unfolding sample firstOf anyBelow sends sharesSlot planNumber
+unfolding sample firstOf anyBelow sends activeOutside guardOrTailWrong minOrMaxWrong someNotActive sharesSlot someShared planNumber
 let-through = refl
 
 pub accepted : verdictOf sample .outcome ≡ Accepted
@@ -115,7 +115,7 @@ pub record GoesRound : Type 0 where
   pub sending : node (runAfter sample freshRun (frame ++ anew)) 0 .mode ≡ Sending
 
 pub goes-round : GoesRound
-unfolding sample D T S quiet by-0 by-1 by-2 frame anew isDone allDone firstOf anyBelow allBelow over sends planNumber sharesSlot freshRun inRange sendsApart outOfStep clockAfter modeAfter slotAfter stepNumber stepTested stepOf
+unfolding sample D T S quiet by-0 by-1 by-2 frame anew isDone allDone firstOf anyBelow allBelow over sends planNumber activeOutside guardOrTailWrong minOrMaxWrong someNotActive sharesSlot someShared freshRun inRange sendsApart outOfStep clockAfter modeAfter slotAfter stepNumber stepTested stepOf
 goes-round = record { done = refl; last-slot = refl; last-message = refl; first-slot = refl; new-message = refl; sending = refl }
 
 pub sample-in-step : InStep sample (runAfter sample freshRun (frame ++ anew)) (timeSince 0 (frame ++ anew))

@@ -1,3 +1,4 @@
 pub mod Outcomes
 pub mod Nodes
 pub mod Legal
+pub mod Ranges
