@@ -1,31 +1,37 @@
 // Document 01's numbers to check, and the columns with three or four nodes of the source's Tables 2, 4 and 5, run and
 // compared: a line for each, which ends `same` or `DIFFERS`.
 use libc::STDOUT_FILENO;
-use plan::{Node, Plan, Slot, Tick, Time};
-use rules::{Judged, Outcome, Rule};
+use plan::Node;
+use plan::Plan;
+use plan::Slot;
+use plan::Tick;
+use plan::Time;
+use rules::Judged;
+use rules::Outcome;
+use rules::Rule;
 
-// Table; N, C, k0, g, t; the source's min, whose max is one more. n is 4 throughout, and node i sends in slot i.
-const COLUMNS: [[u32; 7]; 20] = [
-    [2, 3, 6, 10, 2, 2, 39],
-    [2, 3, 8, 10, 2, 2, 59],
-    [2, 3, 10, 10, 2, 2, 79],
-    [2, 4, 6, 10, 2, 2, 29],
-    [2, 4, 8, 10, 2, 2, 49],
-    [2, 4, 10, 10, 2, 2, 69],
-    [4, 3, 6, 5, 2, 2, 19],
-    [4, 3, 6, 10, 2, 2, 39],
-    [4, 3, 6, 15, 2, 2, 59],
-    [4, 3, 6, 20, 2, 2, 79],
-    [4, 4, 6, 5, 2, 2, 14],
-    [4, 4, 6, 10, 2, 2, 29],
-    [4, 4, 6, 15, 2, 2, 44],
-    [4, 4, 6, 20, 2, 2, 79],
-    [5, 3, 6, 10, 2, 2, 39],
-    [5, 3, 6, 10, 3, 3, 19],
-    [5, 3, 6, 10, 4, 4, 13],
-    [5, 4, 6, 10, 2, 2, 29],
-    [5, 4, 6, 10, 3, 3, 14],
-    [5, 4, 6, 10, 4, 4, 9],
+// N, C, n, k0, g, t; the source's min, whose max is one more; the table's number. Node i sends in slot i.
+const COLUMNS: [[u32; 10]; 20] = [
+    [3, 6, 4, 10, 2, 2, 39, 2, 0, 0],
+    [3, 8, 4, 10, 2, 2, 59, 2, 0, 0],
+    [3, 10, 4, 10, 2, 2, 79, 2, 0, 0],
+    [4, 6, 4, 10, 2, 2, 29, 2, 0, 0],
+    [4, 8, 4, 10, 2, 2, 49, 2, 0, 0],
+    [4, 10, 4, 10, 2, 2, 69, 2, 0, 0],
+    [3, 6, 4, 5, 2, 2, 19, 4, 0, 0],
+    [3, 6, 4, 10, 2, 2, 39, 4, 0, 0],
+    [3, 6, 4, 15, 2, 2, 59, 4, 0, 0],
+    [3, 6, 4, 20, 2, 2, 79, 4, 0, 0],
+    [4, 6, 4, 5, 2, 2, 14, 4, 0, 0],
+    [4, 6, 4, 10, 2, 2, 29, 4, 0, 0],
+    [4, 6, 4, 15, 2, 2, 44, 4, 0, 0],
+    [4, 6, 4, 20, 2, 2, 79, 4, 0, 0],
+    [3, 6, 4, 10, 2, 2, 39, 5, 0, 0],
+    [3, 6, 4, 10, 3, 3, 19, 5, 0, 0],
+    [3, 6, 4, 10, 4, 4, 13, 5, 0, 0],
+    [4, 6, 4, 10, 2, 2, 29, 5, 0, 0],
+    [4, 6, 4, 10, 3, 3, 14, 5, 0, 0],
+    [4, 6, 4, 10, 4, 4, 9, 5, 0, 0],
 ];
 
 // N, C, n, k0, g, t, min, max; what comes out: M and the number of the failed rule (0: accepted), or 0 and 100 more than
@@ -131,52 +137,53 @@ fn judged_word(n: u32) {
     number(b" refused ", n - 100);
 }
 
-fn case(c: [u32; 10]) {
-    let plan = Plan {
+// A row begins with N, C, n, k0, g, t.
+fn plan_of(c: [u32; 10], min: u32, max: u32) -> Plan {
+    let slots = slots_in_order();
+    Plan {
         nodes: Node(c[0]),
         frame: slot(c[1]),
         active: slot(c[2]),
         ticks: ticks(c[3]),
         guard: ticks(c[4]),
         tail: ticks(c[5]),
-        min: Time(c[6]),
-        max: Time(c[7]),
-        slots: slots_in_order(),
-    };
-    let judged = rules::judge(plan);
-    number(b"case N ", c[0]);
+        min: Time(min),
+        max: Time(max),
+        slots: slots,
+    }
+}
+
+fn plan_words(c: [u32; 10]) {
+    number(b" N ", c[0]);
     number(b" C ", c[1]);
     number(b" k0 ", c[3]);
     number(b" g ", c[4]);
     number(b" t ", c[5]);
+}
+
+fn case(c: [u32; 10]) {
+    let judged = rules::judge(plan_of(c, c[6], c[7]));
+    let gap = gap_number(judged);
+    let outcome = judged_number(judged);
+    word(b"case");
+    plan_words(c);
     number(b" ", c[6]);
     number(b"/", c[7]);
-    number(b": gap ", gap_number(judged));
-    judged_word(judged_number(judged));
-    same(gap_number(judged) == c[8] && judged_number(judged) == c[9]);
+    number(b": gap ", gap);
+    judged_word(outcome);
+    same(gap == c[8] && outcome == c[9]);
 }
 
 fn one_more(n: u32) -> u32 {
     if n < 2000000 { n + 1 } else { n }
 }
 
-fn column_judged(c: [u32; 7], min: u32) -> u32 {
-    let plan = Plan {
-        nodes: Node(c[1]),
-        frame: slot(c[2]),
-        active: Slot(4),
-        ticks: ticks(c[3]),
-        guard: ticks(c[4]),
-        tail: ticks(c[5]),
-        min: Time(min),
-        max: Time(one_more(min)),
-        slots: slots_in_order(),
-    };
-    judged_number(rules::judge(plan))
+fn column_judged(c: [u32; 10], min: u32) -> u32 {
+    judged_number(rules::judge(plan_of(c, min, one_more(min))))
 }
 
 // The smallest min below 1,000 with which the rules accept min and min + 1; 1,000 where there is none.
-fn smallest(c: [u32; 7]) -> u32 {
+fn smallest(c: [u32; 10]) -> u32 {
     for min in 1..1000 {
         if column_judged(c, min) == 0 {
             return min;
@@ -185,21 +192,21 @@ fn smallest(c: [u32; 7]) -> u32 {
     1000
 }
 
-fn column(c: [u32; 7]) {
-    number(b"table ", c[0]);
-    number(b" N ", c[1]);
-    number(b" C ", c[2]);
-    number(b" k0 ", c[3]);
-    number(b" g ", c[4]);
-    number(b" t ", c[5]);
+fn smallest_word(found: u32) {
+    if found < 1000 {
+        number(b", smallest ", found);
+        return;
+    }
+    word(b", smallest none");
+}
+
+fn column(c: [u32; 10]) {
+    number(b"table ", c[7]);
+    plan_words(c);
     number(b": source ", c[6]);
     judged_word(column_judged(c, c[6]));
     let found = smallest(c);
-    if found < 1000 {
-        number(b", smallest ", found);
-    } else {
-        word(b", smallest none");
-    }
+    smallest_word(found);
     same(found == c[6]);
 }
 
