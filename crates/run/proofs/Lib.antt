@@ -2,3 +2,6 @@ pub mod Outcomes
 pub mod Nodes
 pub mod Legal
 pub mod Ranges
+pub mod Changes
+pub mod Apartness
+pub mod Reckonings

@@ -1,4 +1,15 @@
 // A run, step by step: the state, the steps, out of step, and a node's reckoning.
+mod delaying;
+mod elsewhere;
+mod modes;
+mod range;
+mod reckoning;
+mod sending;
+mod steps;
+mod ticking;
+
+ghost use mathlib.Core.Path.{_≡_};
+ghost use Rattle.run.specs.State.{freshRun};
 use plan::Node;
 use plan::Slot;
 use plan::Tick;
@@ -60,4 +71,22 @@ pub enum Apart {
 pub enum Reckoned {
     Ticks(u32),
     Refused(u8),
+}
+
+// A run at its beginning: all numbers 0, all waiting, nothing pending, none sent.
+pub fn fresh() -> Run
+    ensures { λ r. ⌜ r ≡ freshRun ⌝ }
+{
+    let node = NodeState {
+        clock: Tick(0),
+        slot: Slot(0),
+        time: Time(0),
+        mode: Mode::Waiting,
+        pending: false,
+    };
+    let nodes = [node; 32];
+    Run {
+        nodes: nodes,
+        last: Last::Nothing,
+    }
 }
