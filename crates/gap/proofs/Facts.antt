@@ -1,13 +1,12 @@
 -- The facts of the frame, as the crates above cite them. Proved in Frame.antt and Back.antt.
-use Prim.Native.Nat.{ℕ, _+_, _≤_, _<_}
+use Prim.Native.Nat.{ℕ, _≤_, _<_}
 use mathlib.Core.Path.{_≡_}
 use mathlib.Core.Logic.{_≢_}
 use mathlib.Core.Bool.{true}
 use Rattle.laws.specs.Ring.{distance}
 use Rattle.plan.specs.declared.Plan.{Plan}
 use Rattle.plan.specs.Sending.{own, sends}
-use Rattle.plan.specs.Tested.{Sound}
-use Rattle.gap.specs.Gap.{predecessor, gapFor, gapOf, slotsToNext}
+use Rattle.gap.specs.Gap.{predecessor, gapFor}
 
 -- The next sending slot after p is d slots away: a node sends there, and no node sends nearer.
 pub record NextAt (P : Plan) (p d : ℕ) : Type 0 where

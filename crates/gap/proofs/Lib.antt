@@ -1,1 +1,5 @@
 pub mod Facts
+pub mod Others
+pub mod Back
+pub mod Forth
+pub mod Bounds

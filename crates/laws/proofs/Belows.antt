@@ -1,8 +1,7 @@
 -- Laws of the questions about the numbers below n.
 use Prim.Native.Nat.{ℕ, zero, suc, _+_, _≤_, _<_, min, max}
-use mathlib.Core.Path.{_≡_, refl, sym, ap, _∙_}
-use mathlib.Core.Logic.{_≢_}
-use mathlib.Core.Bool.{Bool, true, false, _&&_, _||_}
+use mathlib.Core.Path.{_≡_, refl}
+use mathlib.Core.Bool.{Bool, true, false}
 use native.Mathlib.Nat.{not-suc-le-zero}
 use native.Mathlib.Numerals.{add-one}
 use native.Mathlib.Decide.{ℕ-discrete, decLe, decLt}
@@ -10,7 +9,7 @@ use native.Mathlib.Omega.{arith}
 use borrow.Author.Tests.{ltb-true, ltb-false}
 use lib.Dec.{ltb}
 use Rattle.laws.specs.Below.{anyBelow, allBelow, firstFrom, firstBelow, largestBelow, leastBelow}
-use Rattle.laws.proofs.Bools.{clash, and-true-left, and-true-right, and-both, or-false-left, or-false-right, or-neither, or-true-left, or-true-right, Either, first-holds, second-holds, or-either}
+use Rattle.laws.proofs.Bools.{clash, and-true-left, and-true-right, and-both, or-neither, or-true-left, or-true-right, Either, first-holds, second-holds, or-either}
 
 -- some number passes
 

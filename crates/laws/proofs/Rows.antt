@@ -5,7 +5,7 @@ use mathlib.Core.Bool.{Bool, true, false, cond}
 use mathlib.Core.List.{List, [], _∷_}
 use native.Mathlib.Omega.{arith}
 use lib.Dec.{T, ltb, lit<}
-use Rattle.laws.specs.Row.{Row, given, firstOf}
+use Rattle.laws.specs.Row.{Row, firstOf}
 
 -- No test of the rows holds.
 abbrev pub Off : List Row → Type 0
@@ -35,3 +35,12 @@ pub off-all : (rows : List Row) → Off rows → firstOf rows ≡ 0
 unfolding firstOf
 off-all [] o = refl
 off-all (row ∷ rows) o = rw (o .0) (off-all rows (o .1))
+
+-- the first row gives its number, or leaves it to the rest
+pub first-here : (row : Row) (rows : List Row) → row .holds ≡ true → row .number ≡ firstOf (row ∷ rows)
+unfolding firstOf
+first-here row rows h = rw h
+
+pub first-next : (row : Row) (rows : List Row) → row .holds ≡ false → firstOf (row ∷ rows) ≡ firstOf rows
+unfolding firstOf
+first-next row rows h = rw h

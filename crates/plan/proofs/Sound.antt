@@ -11,13 +11,13 @@ use Rattle.laws.proofs.Rows.{all-off}
 use Rattle.laws.proofs.Belows.{any-not, any-some, any-found}
 use Rattle.plan.specs.declared.Plan.{Plan}
 use Rattle.plan.specs.Sending.{own, sends}
-use Rattle.plan.specs.Tested.{planRows, planNumber, sharesSlot, Sound}
+use Rattle.plan.specs.Tested.{activeOutside, guardOrTailWrong, minOrMaxWrong, someNotActive, sharesSlot, someShared, planRows, planNumber, Sound}
 
 -- the two halves of `outside`, and of a row of two or three tests, that did not hold
-inside-low : (low high x : ℕ) → (ltb x low || ltb high x) ≡ false → low ≤ x
+pub inside-low : (low high x : ℕ) → (ltb x low || ltb high x) ≡ false → low ≤ x
 inside-low low high x h = ltb-false x low (or-false-left (ltb x low) (ltb high x) h)
 
-inside-high : (low high x : ℕ) → (ltb x low || ltb high x) ≡ false → x ≤ high
+pub inside-high : (low high x : ℕ) → (ltb x low || ltb high x) ≡ false → x ≤ high
 inside-high low high x h = ltb-false high x (or-false-right (ltb x low) (ltb high x) h)
 
 record ThreeOff (a b c : Bool) : Type 0 where
@@ -38,7 +38,7 @@ unfolding sharesSlot
 apart-below P j i h l e = clash (eqb (own P j) (own P i)) (eq-eqb (own P j) (own P i) e) (any-not i (λ k. eqb (own P k) (own P i)) h j l)
 
 pub sound : (P : Plan) → planNumber P ≡ 0 → Sound P
-unfolding planNumber
+unfolding planNumber activeOutside guardOrTailWrong minOrMaxWrong someNotActive someShared
 sound P e =
     let o = all-off (planRows P) (tt, (tt, (tt, (tt, (tt, (tt, (tt, (tt, (tt, tt))))))))) e in
     let active = o .1 .1 .0 in

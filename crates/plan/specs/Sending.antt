@@ -10,6 +10,10 @@ use Rattle.plan.specs.declared.Plan.{Plan}
 abbrev pub own : Plan → ℕ → ℕ
 own P i = getD (P .slots) i (record { 0 = 0 }) .0
 
+-- Some node below n sends in slot s.
+abbrev pub sendsBelow : Plan → (n s : ℕ) → Bool
+sendsBelow P n s = anyBelow n (λ i. eqb (own P i) s)
+
 -- Some node sends in slot s.
 unfoldable pub sends : Plan → ℕ → Bool
-sends P s = anyBelow (P .nodes .0) (λ i. eqb (own P i) s)
+sends P s = sendsBelow P (P .nodes .0) s

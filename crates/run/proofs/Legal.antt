@@ -1,24 +1,19 @@
 -- What it means that a step is legal, kind by kind, and what a step that is done leads to.
 use Prim.Native.Nat.{ℕ, _+_, _≤_, _<_}
-use mathlib.Core.Path.{_≡_, refl, sym, ap, _∙_}
-use mathlib.Core.Logic.{_≢_}
-use mathlib.Core.Bool.{Bool, true, false, cond, not, _||_}
-use mathlib.Core.List.{List, [], _∷_}
+use mathlib.Core.Path.{_≡_, refl, ap}
+use mathlib.Core.Bool.{Bool, true, false, not}
+use mathlib.Core.List.{_∷_}
 use native.Mathlib.Omega.{arith}
 use borrow.Author.Tests.{ltb-false, leb-false, eqb-false, eqb-true, eq-eqb, ne-eqb, le-ltb, lt-leb}
-use lib.Dec.{eqb, leb, ltb}
-use Rattle.laws.specs.Row.{Row, given, firstOf}
+use lib.Dec.{eqb, ltb}
+use Rattle.laws.specs.Row.{given}
 use Rattle.laws.specs.Below.{anyBelow}
-use Rattle.laws.proofs.Bools.{clash, or-false-left, or-false-right, or-neither, false-not-true}
+use Rattle.laws.proofs.Bools.{or-false-left, or-false-right, or-neither, false-not-true}
 use Rattle.laws.proofs.Rows.{all-off, off-all}
 use Rattle.laws.proofs.Belows.{any-not, any-never}
 use Rattle.plan.specs.declared.Plan.{Plan}
-use Rattle.plan.specs.declared.Time.{Time}
-use Rattle.plan.specs.declared.Node.{Node}
 use Rattle.plan.specs.Refusals.{run-outside, out-of-step}
 use Rattle.plan.specs.Tested.{planNumber}
-use Rattle.run.specs.declared.Mode.{Mode}
-use Rattle.run.specs.declared.Mode.the-variants.{Waiting, AboutToSend, Sending}
 use Rattle.run.specs.declared.Run.{Run}
 use Rattle.run.specs.declared.Step.{Step}
 use Rattle.run.specs.declared.Step.the-variants.{Delay, TickOf, SendOf}
@@ -26,7 +21,7 @@ use Rattle.run.specs.declared.Answer.{Answer}
 use Rattle.run.specs.declared.Answer.the-variants.{Done, Refused}
 use Rattle.run.specs.State.{node, isAbout, inRange, outOfStep}
 use Rattle.run.specs.Moves.{moved}
-use Rattle.run.specs.Steps.{stepRows, stepNumber, refusedWith, stepTested, stepOf}
+use Rattle.run.specs.Steps.{stepRows, stepNumber, stepTested, stepOf}
 
 -- a delay is legal: it is one, nobody is about to send, nobody passes max
 pub record DelayLegal (P : Plan) (r : Run) (d : ℕ) : Type 0 where

@@ -1,14 +1,12 @@
 -- One law for each outcome of a tick: the clock, the mode and the slot number after it.
-use Prim.Native.Nat.{ℕ, _+_, _%_, _≤_, _<_}
-use mathlib.Core.Path.{_≡_, refl, sym, _∙_}
+use Prim.Native.Nat.{ℕ, _+_, _%_, _<_}
+use mathlib.Core.Path.{_≡_, refl}
 use mathlib.Core.Logic.{_≢_}
 use mathlib.Core.Bool.{Bool, true, false, cond, _&&_}
 use native.Mathlib.Nat.{mod-eq-of-lt, mod-self}
 use borrow.Author.Tests.{eq-eqb, ne-eqb}
 use lib.Dec.{eqb}
-use Rattle.laws.proofs.Bools.{and-both}
 use Rattle.plan.specs.declared.Plan.{Plan}
-use Rattle.run.specs.declared.Mode.{Mode}
 use Rattle.run.specs.declared.Mode.the-variants.{Waiting, AboutToSend, Sending}
 use Rattle.run.specs.Moves.{clockAfter, modeAfter, slotAfter}
 

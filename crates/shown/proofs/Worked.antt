@@ -10,7 +10,7 @@ use Rattle.laws.specs.Ring.{distance}
 use Rattle.plan.specs.declared.Plan.{Plan}
 use Rattle.plan.specs.declared.Slot.{Slot}
 use Rattle.plan.specs.Sending.{sends}
-use Rattle.plan.specs.Tested.{planNumber, sharesSlot}
+use Rattle.plan.specs.Tested.{activeOutside, guardOrTailWrong, minOrMaxWrong, someNotActive, sharesSlot, someShared, planNumber}
 use Rattle.gap.specs.Gap.{nearest, predecessor, gapAt, gapOf}
 use Rattle.rules.specs.Rules.{sidesAt, outcomeBy, verdictAt, verdictOf}
 use Rattle.run.specs.declared.Step.{Step}
@@ -48,5 +48,5 @@ listed =
 listing :
     shownSteps listed 40 freshPlace
     ≡ D 1 ∷ T 2 ∷ T 0 ∷ S 0 ∷ T 1 ∷ D 1 ∷ T 1 ∷ T 0 ∷ T 2 ∷ D 1 ∷ T 1 ∷ T 0 ∷ T 2 ∷ D 1 ∷ T 1 ∷ T 0 ∷ T 2 ∷ D 1 ∷ T 1 ∷ S 1 ∷ []
-unfolding D T S listed firstOf anyBelow allBelow firstFrom largestBelow leastBelow over distance sends planNumber sharesSlot nearest predecessor gapAt gapOf sidesAt outcomeBy verdictAt verdictOf freshRun inRange sendsApart outOfStep clockAfter modeAfter slotAfter stepNumber predecessorAt widestFrom widestNode partsFor freshPlace dueTime pastDue goesFirst goesSecond nextStep markAfter givenBy givenFor givenOf
+unfolding D T S listed firstOf anyBelow allBelow firstFrom largestBelow leastBelow over distance sends activeOutside guardOrTailWrong minOrMaxWrong someNotActive sharesSlot someShared planNumber nearest predecessor gapAt gapOf sidesAt outcomeBy verdictAt verdictOf freshRun inRange sendsApart outOfStep clockAfter modeAfter slotAfter stepNumber predecessorAt widestFrom widestNode partsFor freshPlace dueTime pastDue goesFirst goesSecond nextStep markAfter givenBy givenFor givenOf
 listing = refl
