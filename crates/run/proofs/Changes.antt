@@ -1,6 +1,6 @@
 -- A run whose first n nodes are changed: what a loop over the nodes has done by its turn n.
-use Prim.Native.Nat.{ℕ, _+_, _≤_, _<_}
-use mathlib.Core.Path.{_≡_, refl, ap, _∙_}
+use Prim.Native.Nat.{ℕ, _+_, _<_}
+use mathlib.Core.Path.{_≡_, ap, _∙_}
 use native.Mathlib.Omega.{arith}
 use lib.ListN.{length, set}
 use Rattle.laws.specs.Over.{over}

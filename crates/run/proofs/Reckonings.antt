@@ -1,13 +1,13 @@
 -- What refusals 10, 12 and 17 let through, and that such a reckoning is no number below 0 and fits a u32.
-use Prim.Native.Nat.{ℕ, _+_, _*_, _-_, _≤_, _<_}
-use mathlib.Core.Path.{_≡_, refl, sym, ap, _∙_}
-use mathlib.Core.Bool.{Bool, true, false, not, _&&_}
-use mathlib.Core.List.{List, [], _∷_}
+use Prim.Native.Nat.{ℕ, _≤_, _<_}
+use mathlib.Core.Path.{_≡_}
+use mathlib.Core.Bool.{true, false, not}
+use mathlib.Core.List.{[], _∷_}
 use native.Mathlib.Nat.{mul-le-mul, mul-le-mul-right}
 use native.Mathlib.Decide.{ℕ-discrete}
 use native.Mathlib.Omega.{arith}
 use borrow.Author.Tests.{leb-false, ltb-false, eq-eqb}
-use lib.Dec.{eqb, leb, ltb}
+use lib.Dec.{leb}
 use Rattle.laws.specs.Row.{given}
 use Rattle.laws.specs.Ring.{distance}
 use Rattle.laws.proofs.Bools.{false-not-true}

@@ -13,6 +13,8 @@ ghost use Rattle.run.specs.Steps.{stepRows, stepNumber};
 use crate::NodeState;
 use crate::Run;
 use crate::modes::is_about;
+use plan::DELAY_BEFORE_SEND;
+use plan::DELAY_WRONG;
 use plan::Plan;
 use plan::Time;
 
@@ -55,13 +57,13 @@ pub fn delay_number(plan: Plan, run: Run, d: Time) -> u8
     ensures { λ r. ⌜ r ≡ firstOf (stepRows plan run (Delay d)) ⌝ }
 {
     if some_about(plan, run) {
-        return 15;
+        return DELAY_BEFORE_SEND;
     }
     if d.0 == 0 {
-        return 14;
+        return DELAY_WRONG;
     }
     if some_past_max(plan, run, d) {
-        return 14;
+        return DELAY_WRONG;
     }
     0
 }

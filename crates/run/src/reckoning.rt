@@ -10,8 +10,11 @@ use crate::NodeState;
 use crate::Reckoned;
 use crate::Run;
 use crate::range::in_range;
+use plan::NODE_UNKNOWN;
 use plan::Node;
 use plan::Plan;
+use plan::RECKONING_BELOW_0;
+use plan::RUN_OUTSIDE;
 use plan::Slot;
 
 // The last message's slot, nothing pending, clock below g.
@@ -68,15 +71,15 @@ fn reckoning_number(plan: Plan, run: Run, i: Node) -> u8
     ensures { λ r. ⌜ r ≡ reckoningNumber plan run (i .0) ⌝ }
 {
     if !in_range(plan, run) {
-        return 10;
+        return RUN_OUTSIDE;
     }
     if plan.nodes.0 <= i.0 {
-        return 12;
+        return NODE_UNKNOWN;
     }
     let last = run.last;
     let node = run.nodes[i.0 as usize];
     if below_zero(plan, last, node) {
-        return 17;
+        return RECKONING_BELOW_0;
     }
     0
 }

@@ -11,6 +11,8 @@ use crate::Mode;
 use crate::NodeState;
 use crate::Run;
 use crate::modes::is_about;
+use plan::NODE_UNKNOWN;
+use plan::NOT_ABOUT_TO_SEND;
 use plan::Node;
 use plan::Plan;
 
@@ -20,12 +22,12 @@ pub fn send_number(plan: Plan, run: Run, i: Node) -> u8
     ensures { λ r. ⌜ r ≡ firstOf (stepRows plan run (SendOf i)) ⌝ }
 {
     if plan.nodes.0 <= i.0 {
-        return 12;
+        return NODE_UNKNOWN;
     }
     let node = run.nodes[i.0 as usize];
     let mode = node.mode;
     if !is_about(mode) {
-        return 16;
+        return NOT_ABOUT_TO_SEND;
     }
     0
 }

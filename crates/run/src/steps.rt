@@ -14,6 +14,7 @@ use crate::sending::send_number;
 use crate::sending::sent;
 use crate::ticking::tick_number;
 use crate::ticking::ticked;
+use plan::OUT_OF_STEP;
 use plan::Plan;
 
 // The first refusal from 11 on that speaks against a step; 0 where the step is legal.
@@ -23,7 +24,7 @@ pub fn step_number(plan: Plan, run: Run, step: Step) -> u8
     ensures { λ r. ⌜ r ≡ stepNumber plan run step ⌝ }
 {
     if is_apart(plan, run) {
-        return 11;
+        return OUT_OF_STEP;
     }
     match step {
         Step::Delay(d) => delay_number(plan, run, d),

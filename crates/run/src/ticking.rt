@@ -11,9 +11,11 @@ ghost use Rattle.run.specs.Steps.{stepRows};
 use crate::Mode;
 use crate::NodeState;
 use crate::Run;
+use plan::NODE_UNKNOWN;
 use plan::Node;
 use plan::Plan;
 use plan::Slot;
+use plan::TICK_TOO_EARLY;
 use plan::Tick;
 use plan::Time;
 
@@ -111,11 +113,11 @@ pub fn tick_number(plan: Plan, run: Run, i: Node) -> u8
     ensures { λ r. ⌜ r ≡ firstOf (stepRows plan run (TickOf i)) ⌝ }
 {
     if plan.nodes.0 <= i.0 {
-        return 12;
+        return NODE_UNKNOWN;
     }
     let node = run.nodes[i.0 as usize];
     if node.time.0 < plan.min.0 {
-        return 13;
+        return TICK_TOO_EARLY;
     }
     0
 }

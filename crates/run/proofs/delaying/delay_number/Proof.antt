@@ -1,38 +1,28 @@
-use Rattle.laws.specs.Row.{firstOf}
-use borrow.Author.Tests.{eq-eqb, ne-eqb}
 use mathlib.Core.Path.{sym, _∙_}
+use borrow.Author.Tests.{eq-eqb, ne-eqb}
 use borrow.Author.Needs.{needs}
+use Rattle.laws.specs.Row.{firstOf}
 use Rattle.run.proofs.delaying.delay_number.Statement.{statement}
 use Rattle.run.proofs.delaying.delay_number.Tie as tie
-use Rattle.run.proofs.delaying.delay_number.Reads as reads
-use Rattle.run.proofs.delaying.delay_number.Lts as lts
-use Rattle.run.proofs.delaying.some_about.Reads as some-about-reads
-use Rattle.run.proofs.delaying.some_past_max.Reads as some-past-max-reads
 
--- src/delaying.rt:57:8
 some-about-requires : tie.Need-some-about-requires
 some-about-requires c κs = search needs
 
--- src/delaying.rt:58:9
 returns : tie.Need-returns
 unfolding firstOf
 returns c = rw (sym (c .before .some-about .ensures) ∙ c .if1 .taken)
 
--- src/delaying.rt:61:9
 returns-2 : tie.Need-returns-2
 unfolding firstOf
 returns-2 c = rw (sym (c .before .before .before .some-about .ensures) ∙ c .before .before .if1 .left, eq-eqb (c .before .before .before .before .args .d .0) 0 (c .if2 .taken))
 
--- src/delaying.rt:63:8
 some-past-max-requires : tie.Need-some-past-max-requires
 some-past-max-requires c κs = search needs
 
--- src/delaying.rt:64:9
 returns-3 : tie.Need-returns-3
 unfolding firstOf
 returns-3 c = rw (sym (c .before .before .before .before .before .some-about .ensures) ∙ c .before .before .before .before .if1 .left, ne-eqb (c .before .before .before .before .before .before .args .d .0) 0 (c .before .before .if2 .left), sym (c .before .some-past-max .ensures) ∙ c .if3 .taken)
 
--- src/delaying.rt:52:1
 returns-4 : tie.Need-returns-4
 unfolding firstOf
 returns-4 c = rw (sym (c .before .before .before .before .before .some-about .ensures) ∙ c .before .before .before .before .if1 .left, ne-eqb (c .before .before .before .before .before .before .args .d .0) 0 (c .before .before .if2 .left), sym (c .before .some-past-max .ensures) ∙ c .if3 .left)

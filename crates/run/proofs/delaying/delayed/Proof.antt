@@ -1,19 +1,15 @@
+use Prim.Native.Nat.{ℕ, _≤_, _-_}
+use mathlib.Core.Path.{_≡_, ap, _∙_}
+use native.Mathlib.Omega.{arith}
+use borrow.Author.Needs.{needs}
+use lib.ListN.{length, length-map}
 use Rattle.run.specs.declared.Step.the-variants.{Delay}
 use Rattle.run.specs.declared.NodeState.{NodeState}
+use Rattle.run.specs.Moves.{nodeDelayed}
 use Rattle.run.proofs.Changes.{changed, changed-none, changed-at, changed-more}
 use Rattle.run.proofs.Legal.{legal-step}
-use Rattle.run.specs.Moves.{nodeDelayed}
-use Rattle.run.specs.State.{node}
-use lib.ListN.{length, length-map}
-use native.Mathlib.Omega.{arith}
-use mathlib.Core.Path.{_≡_, ap, _∙_}
-use Prim.Native.Nat.{ℕ, _≤_, _-_}
-use borrow.Author.Needs.{needs}
 use Rattle.run.proofs.delaying.delayed.Statement.{statement}
 use Rattle.run.proofs.delaying.delayed.Tie as tie
-use Rattle.run.proofs.delaying.delayed.Reads as reads
-use Rattle.run.proofs.delaying.delayed.Lts as lts
-use Rattle.run.proofs.delaying.node_delayed.Reads as node-delayed-reads
 
 abbrev Inv-loop : tie.InvT-loop
 Inv-loop d n next₀ i₀ next i = (i ≤ n) × (next ≡ changed i (λ k a. nodeDelayed (d .0) a) next₀)
@@ -21,23 +17,18 @@ Inv-loop d n next₀ i₀ next i = (i ≤ n) × (next ≡ changed i (λ k a. nod
 abbrev μ-loop : tie.MeasureT-loop
 μ-loop d n next₀ i₀ next i = n - i
 
--- src/delaying.rt:84:13
 cast-n : tie.Need-cast-n Inv-loop μ-loop
 cast-n c = search needs
 
--- src/delaying.rt:86:5
 loop-holds : tie.Need-loop-holds Inv-loop μ-loop
 loop-holds c = (search needs, changed-none _ _)
 
--- src/delaying.rt:87:20
 mul-node : tie.Need-mul-node Inv-loop μ-loop
 mul-node c = search needs
 
--- src/delaying.rt:87:20
 element-copy-out-node : tie.Need-element-copy-out-node Inv-loop μ-loop
 element-copy-out-node c = search needs
 
--- src/delaying.rt:88:25
 node-delayed-requires : tie.Need-node-delayed-requires Inv-loop μ-loop
 node-delayed-requires c κs =
     let b = c .before .before .before .before in
@@ -46,23 +37,18 @@ node-delayed-requires c κs =
     let time = ap (λ (a : NodeState). a .time .0) (changed-at (λ k a. nodeDelayed (b .args .d .0) a) (b .args .run) (l .i) (l .next) (l .inv .1)) in
     omega arith
 
--- src/delaying.rt:88:9
 mul-t9 : tie.Need-mul-t9 Inv-loop μ-loop
 mul-t9 c = search needs
 
--- src/delaying.rt:88:9
 element-set-from-next : tie.Need-element-set-from-next Inv-loop μ-loop
 element-set-from-next c = search needs
 
--- src/delaying.rt:86:9
 add-i : tie.Need-add-i Inv-loop μ-loop
 add-i c = search needs
 
--- src/delaying.rt:86:5
 loop-less : tie.Need-loop-less Inv-loop μ-loop
 loop-less c = search needs
 
--- src/delaying.rt:86:5
 loop-again : tie.Need-loop-again Inv-loop μ-loop
 loop-again c =
     let b = c .before .before .before .before .before in
@@ -70,7 +56,6 @@ loop-again c =
     let room : length (b .args .run .nodes) ≡ 32 = simp length-map at (b .good .1 .0 .1 .1 .0 .1 .0 .1) in
     (search needs, changed-more _ (b .args .run) (l .i) (l .next) (c .node-delayed .result) (omega arith) (l .inv .1) (c .node-delayed .ensures))
 
--- src/delaying.rt:79:1
 returns : tie.Need-returns Inv-loop μ-loop
 returns c =
     let b = c .before .before .before in

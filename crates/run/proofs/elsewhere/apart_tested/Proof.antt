@@ -1,42 +1,30 @@
-use Rattle.run.proofs.Apartness.{in-step-silent, in-step-together, out-lowest}
 use mathlib.Core.Path.{sym}
 use borrow.Author.Needs.{needs}
+use Rattle.run.proofs.Apartness.{in-step-silent, in-step-together, out-lowest}
 use Rattle.run.proofs.elsewhere.apart_tested.Statement.{statement}
 use Rattle.run.proofs.elsewhere.apart_tested.Tie as tie
-use Rattle.run.proofs.elsewhere.apart_tested.Reads as reads
-use Rattle.run.proofs.elsewhere.apart_tested.Lts as lts
-use Rattle.run.proofs.elsewhere.first_elsewhere.Reads as first-elsewhere-reads
-use Rattle.run.proofs.elsewhere.first_sending.Reads as first-sending-reads
 
--- src/elsewhere.rt:51:13
 cast-n : tie.Need-cast-n
 cast-n c = search needs
 
--- src/elsewhere.rt:52:9
 first-sending-requires : tie.Need-first-sending-requires
 first-sending-requires c κs = search needs
 
--- src/elsewhere.rt:54:9
 returns : tie.Need-returns
 returns c = let a = c .before .before .before .args in sym (in-step-silent (a .plan) (a .run) (rw (c .before .first-sending .ensures) at (c .if1 .taken)))
 
--- src/elsewhere.rt:56:9
 first-elsewhere-requires : tie.Need-first-elsewhere-requires
 first-elsewhere-requires c κs = search needs
 
--- src/elsewhere.rt:58:9
 returns-2 : tie.Need-returns-2
 returns-2 c = let a = c .before .before .before .before .before .args in sym (in-step-together (a .plan) (a .run) (c .before .before .before .first-sending .result) (rw (c .before .first-elsewhere .ensures) at (c .if2 .taken)))
 
--- src/elsewhere.rt:60:21
 cast-t7 : tie.Need-cast-t7
 cast-t7 c = search needs
 
--- src/elsewhere.rt:60:37
 cast-t9 : tie.Need-cast-t9
 cast-t9 c = search needs
 
--- src/elsewhere.rt:47:1
 returns-3 : tie.Need-returns-3
 returns-3 c =
     let a = c .before .before .before .before .before .args in

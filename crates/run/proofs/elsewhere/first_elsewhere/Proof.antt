@@ -1,15 +1,13 @@
-use Rattle.run.specs.State.{node, elsewhere}
-use Rattle.laws.proofs.Belows.{before-more, first-at, first-none}
-use borrow.Author.Tests.{eq-eqb, ne-eqb}
-use native.Mathlib.Omega.{arith}
+use Prim.Native.Nat.{ℕ, _≤_, _<_, _-_}
 use mathlib.Core.Bool.{false, not}
 use mathlib.Core.Path.{_≡_, sym, ap}
-use Prim.Native.Nat.{ℕ, _≤_, _<_, _-_}
+use native.Mathlib.Omega.{arith}
+use borrow.Author.Tests.{eq-eqb, ne-eqb}
 use borrow.Author.Needs.{needs}
+use Rattle.laws.proofs.Belows.{before-more, first-at, first-none}
+use Rattle.run.specs.State.{node, elsewhere}
 use Rattle.run.proofs.elsewhere.first_elsewhere.Statement.{statement}
 use Rattle.run.proofs.elsewhere.first_elsewhere.Tie as tie
-use Rattle.run.proofs.elsewhere.first_elsewhere.Reads as reads
-use Rattle.run.proofs.elsewhere.first_elsewhere.Lts as lts
 
 abbrev Inv-loop : tie.InvT-loop
 Inv-loop i run n sender j₀ j = (j ≤ n) × ((k : ℕ) → k < j → elsewhere run i k ≡ false)
@@ -17,53 +15,42 @@ Inv-loop i run n sender j₀ j = (j ≤ n) × ((k : ℕ) → k < j → elsewhere
 abbrev μ-loop : tie.MeasureT-loop
 μ-loop i run n sender j₀ j = n - j
 
--- src/elsewhere.rt:35:13
 cast-n : tie.Need-cast-n Inv-loop μ-loop
 cast-n c = search needs
 
--- src/elsewhere.rt:36:18
 mul-sender : tie.Need-mul-sender Inv-loop μ-loop
 mul-sender c = search needs
 
--- src/elsewhere.rt:36:18
 element-copy-out-sender : tie.Need-element-copy-out-sender Inv-loop μ-loop
 element-copy-out-sender c = search needs
 
--- src/elsewhere.rt:37:5
 loop-holds : tie.Need-loop-holds Inv-loop μ-loop
 loop-holds c = (search needs, λ k l. absurd (omega arith))
 
--- src/elsewhere.rt:38:20
 mul-node : tie.Need-mul-node Inv-loop μ-loop
 mul-node c = search needs
 
--- src/elsewhere.rt:38:20
 element-copy-out-node : tie.Need-element-copy-out-node Inv-loop μ-loop
 element-copy-out-node c = search needs
 
--- src/elsewhere.rt:40:13
 returns : tie.Need-returns Inv-loop μ-loop
 returns c =
     let a = c .before .before .before .before .before .before .before .before .args in
     let l = c .before .before .before .before .before .loop in
     sym (first-at (a .plan .nodes .0) (l .j) (elsewhere (a .t2) (a .i)) (search needs) (l .inv .1) (ap not (ne-eqb (node (a .t2) (l .j) .slot .0) (node (a .t2) (a .i) .slot .0) (c .if1 .taken))))
 
--- src/elsewhere.rt:37:9
 add-j : tie.Need-add-j Inv-loop μ-loop
 add-j c = search needs
 
--- src/elsewhere.rt:37:5
 loop-less : tie.Need-loop-less Inv-loop μ-loop
 loop-less c = search needs
 
--- src/elsewhere.rt:37:5
 loop-again : tie.Need-loop-again Inv-loop μ-loop
 loop-again c =
     let a = c .before .before .before .before .before .before .before .before .args in
     let l = c .before .before .before .before .before .loop in
     (search needs, before-more (elsewhere (a .t2) (a .i)) (l .j) (l .inv .1) (ap not (eq-eqb (node (a .t2) (l .j) .slot .0) (node (a .t2) (a .i) .slot .0) (c .if1 .left))))
 
--- src/elsewhere.rt:30:1
 returns-2 : tie.Need-returns-2 Inv-loop μ-loop
 returns-2 c =
     let a = c .before .before .before .before .args in

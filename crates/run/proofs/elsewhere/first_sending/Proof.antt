@@ -1,15 +1,12 @@
-use Rattle.run.specs.State.{node, isSending}
-use Rattle.laws.proofs.Belows.{before-more, first-at, first-none}
-use native.Mathlib.Omega.{arith}
+use Prim.Native.Nat.{ℕ, _≤_, _<_, _-_}
 use mathlib.Core.Bool.{false}
 use mathlib.Core.Path.{_≡_, sym, _∙_}
-use Prim.Native.Nat.{ℕ, _≤_, _<_, _-_}
+use native.Mathlib.Omega.{arith}
 use borrow.Author.Needs.{needs}
+use Rattle.laws.proofs.Belows.{before-more, first-at, first-none}
+use Rattle.run.specs.State.{node, isSending}
 use Rattle.run.proofs.elsewhere.first_sending.Statement.{statement}
 use Rattle.run.proofs.elsewhere.first_sending.Tie as tie
-use Rattle.run.proofs.elsewhere.first_sending.Reads as reads
-use Rattle.run.proofs.elsewhere.first_sending.Lts as lts
-use Rattle.run.proofs.modes.is_sending.Reads as is-sending-reads
 
 abbrev Inv-loop : tie.InvT-loop
 Inv-loop run n i₀ i = (i ≤ n) × ((k : ℕ) → k < i → isSending (node run k .mode) ≡ false)
@@ -17,46 +14,36 @@ Inv-loop run n i₀ i = (i ≤ n) × ((k : ℕ) → k < i → isSending (node ru
 abbrev μ-loop : tie.MeasureT-loop
 μ-loop run n i₀ i = n - i
 
--- src/elsewhere.rt:18:13
 cast-n : tie.Need-cast-n Inv-loop μ-loop
 cast-n c = search needs
 
--- src/elsewhere.rt:19:5
 loop-holds : tie.Need-loop-holds Inv-loop μ-loop
 loop-holds c = (search needs, λ k l. absurd (omega arith))
 
--- src/elsewhere.rt:20:20
 mul-node : tie.Need-mul-node Inv-loop μ-loop
 mul-node c = search needs
 
--- src/elsewhere.rt:20:20
 element-copy-out-node : tie.Need-element-copy-out-node Inv-loop μ-loop
 element-copy-out-node c = search needs
 
--- src/elsewhere.rt:22:12
 is-sending-requires : tie.Need-is-sending-requires Inv-loop μ-loop
 is-sending-requires c κs = search needs
 
--- src/elsewhere.rt:23:13
 returns : tie.Need-returns Inv-loop μ-loop
 returns c =
     let a = c .before .before .before .before .before .before .args in
     let l = c .before .before .before .before .loop in
     sym (first-at (a .plan .nodes .0) (l .i) (λ k. isSending (node (a .t2) k .mode)) (search needs) (l .inv .1) (sym (c .before .is-sending .ensures) ∙ c .if1 .taken))
 
--- src/elsewhere.rt:19:9
 add-i : tie.Need-add-i Inv-loop μ-loop
 add-i c = search needs
 
--- src/elsewhere.rt:19:5
 loop-less : tie.Need-loop-less Inv-loop μ-loop
 loop-less c = search needs
 
--- src/elsewhere.rt:19:5
 loop-again : tie.Need-loop-again Inv-loop μ-loop
 loop-again c = (search needs, before-more _ _ (c .before .before .before .before .loop .inv .1) (sym (c .before .is-sending .ensures) ∙ c .if1 .left))
 
--- src/elsewhere.rt:14:1
 returns-2 : tie.Need-returns-2 Inv-loop μ-loop
 returns-2 c =
     let a = c .before .before .before .args in

@@ -1,37 +1,27 @@
-use Rattle.run.proofs.Apartness.{isOut, out-of-step-told}
 use mathlib.Core.Path.{sym, ap, _∙_}
 use borrow.Author.Needs.{needs}
+use Rattle.run.proofs.Apartness.{isOut, out-of-step-told}
 use Rattle.run.proofs.elsewhere.is_apart.Statement.{statement}
 use Rattle.run.proofs.elsewhere.is_apart.Tie as tie
-use Rattle.run.proofs.elsewhere.is_apart.Reads as reads
-use Rattle.run.proofs.elsewhere.is_apart.Lts as lts
-use Rattle.run.proofs.elsewhere.apart_tested.Reads as apart-tested-reads
 
--- src/elsewhere.rt:67:9
 apart-tested-requires : tie.Need-apart-tested-requires
 apart-tested-requires c κs = search needs
 
--- src/elsewhere.rt:69:26
 enum-told : tie.Need-enum-told
 enum-told c = search needs
 
--- src/elsewhere.rt:70:29
 enum-told-2 : tie.Need-enum-told-2
 enum-told-2 c = search needs
 
--- src/elsewhere.rt:71:30
 enum-told-3 : tie.Need-enum-told-3
 enum-told-3 c = search needs
 
--- src/elsewhere.rt:63:1
 returns : tie.Need-returns
 returns c = sym (out-of-step-told (c .before .before .before .args .plan) (c .before .before .before .args .run) ∙ ap isOut (sym (c .before .before .apart-tested .ensures) ∙ c .enum-told .given .1))
 
--- src/elsewhere.rt:63:1
 returns-2 : tie.Need-returns-2
 returns-2 c = sym (out-of-step-told (c .before .before .before .args .plan) (c .before .before .before .args .run) ∙ ap isOut (sym (c .before .before .apart-tested .ensures) ∙ c .enum-told2 .given .1))
 
--- src/elsewhere.rt:63:1
 returns-3 : tie.Need-returns-3
 returns-3 c = sym (out-of-step-told (c .before .before .before .args .plan) (c .before .before .before .args .run) ∙ ap isOut (sym (c .before .before .apart-tested .ensures) ∙ c .enum-told3 .given .1))
 

@@ -1,18 +1,14 @@
-use Rattle.laws.proofs.Belows.{all-none, all-more, all-fails}
-use borrow.Author.Tests.{not-true, not-false}
-use native.Mathlib.Omega.{arith}
+use Prim.Native.Nat.{ℕ, _≤_, _-_}
 use mathlib.Core.Path.{_≡_, sym, ap, _∙_}
-use Rattle.run.specs.State.{node, nodeInRange, inRange}
-use Rattle.laws.specs.Below.{allBelow}
 use mathlib.Core.Bool.{true}
-use Prim.Native.Nat.{ℕ, _≤_, _<_, _-_}
+use native.Mathlib.Omega.{arith}
+use borrow.Author.Tests.{not-true, not-false}
 use borrow.Author.Needs.{needs}
+use Rattle.laws.specs.Below.{allBelow}
+use Rattle.laws.proofs.Belows.{all-none, all-more, all-fails}
+use Rattle.run.specs.State.{node, nodeInRange, inRange}
 use Rattle.run.proofs.range.in_range.Statement.{statement}
 use Rattle.run.proofs.range.in_range.Tie as tie
-use Rattle.run.proofs.range.in_range.Reads as reads
-use Rattle.run.proofs.range.in_range.Lts as lts
-use Rattle.run.proofs.range.last_in_range.Reads as last-in-range-reads
-use Rattle.run.proofs.range.node_in_range.Reads as node-in-range-reads
 
 abbrev Inv-loop : tie.InvT-loop
 Inv-loop plan run n i₀ i = (i ≤ n) × (allBelow i (λ k. nodeInRange plan (node run k)) ≡ true)
@@ -20,27 +16,21 @@ Inv-loop plan run n i₀ i = (i ≤ n) × (allBelow i (λ k. nodeInRange plan (n
 abbrev μ-loop : tie.MeasureT-loop
 μ-loop plan run n i₀ i = n - i
 
--- src/range.rt:38:13
 cast-n : tie.Need-cast-n Inv-loop μ-loop
 cast-n c = search needs
 
--- src/range.rt:39:5
 loop-holds : tie.Need-loop-holds Inv-loop μ-loop
 loop-holds c = (search needs, all-none _)
 
--- src/range.rt:40:20
 mul-node : tie.Need-mul-node Inv-loop μ-loop
 mul-node c = search needs
 
--- src/range.rt:40:20
 element-copy-out-node : tie.Need-element-copy-out-node Inv-loop μ-loop
 element-copy-out-node c = search needs
 
--- src/range.rt:41:13
 node-in-range-requires : tie.Need-node-in-range-requires Inv-loop μ-loop
 node-in-range-requires c κs = search needs
 
--- src/range.rt:42:13
 returns : tie.Need-returns Inv-loop μ-loop
 unfolding inRange
 returns c =
@@ -49,23 +39,18 @@ returns c =
     let out = sym (c .before .node-in-range .ensures) ∙ not-true (c .before .node-in-range .result) (c .if1 .taken) in
     rw (all-fails (a .plan .nodes .0) i (λ k. nodeInRange (a .plan) (node (a .t2) k)) (search needs) out)
 
--- src/range.rt:39:9
 add-i : tie.Need-add-i Inv-loop μ-loop
 add-i c = search needs
 
--- src/range.rt:39:5
 loop-less : tie.Need-loop-less Inv-loop μ-loop
 loop-less c = search needs
 
--- src/range.rt:39:5
 loop-again : tie.Need-loop-again Inv-loop μ-loop
 loop-again c = (search needs, all-more _ _ (c .before .before .before .before .loop .inv .1) (sym (c .before .node-in-range .ensures) ∙ not-false (c .before .node-in-range .result) (c .if1 .left)))
 
--- src/range.rt:46:5
 last-in-range-requires : tie.Need-last-in-range-requires Inv-loop μ-loop
 last-in-range-requires c κs = search needs
 
--- src/range.rt:34:1
 returns-2 : tie.Need-returns-2 Inv-loop μ-loop
 unfolding inRange
 returns-2 c =

@@ -1,23 +1,16 @@
-use Rattle.laws.proofs.Tests.{tests}
 use borrow.Author.Needs.{needs}
 use Rattle.run.proofs.range.last_in_range.Statement.{statement}
 use Rattle.run.proofs.range.last_in_range.Tie as tie
-use Rattle.run.proofs.range.last_in_range.Reads as reads
-use Rattle.run.proofs.range.last_in_range.Lts as lts
 
--- src/range.rt:28:18
 enum-known-last : tie.Need-enum-known-last
 enum-known-last c = search needs
 
--- src/range.rt:29:26
 enum-told : tie.Need-enum-told
 enum-told c = search needs
 
--- src/range.rt:24:1
 returns : tie.Need-returns
 returns c = rw (c .before .before .before .last .given .1)
 
--- src/range.rt:24:1
 returns-2 : tie.Need-returns-2
 returns-2 c = search needs
 

@@ -1,19 +1,13 @@
 use Rattle.laws.proofs.Tests.{tests}
-use borrow.Author.Needs.{needs}
 use Rattle.run.proofs.range.node_in_range.Statement.{statement}
 use Rattle.run.proofs.range.node_in_range.Tie as tie
-use Rattle.run.proofs.range.node_in_range.Reads as reads
-use Rattle.run.proofs.range.node_in_range.Lts as lts
 
--- src/range.rt:16:9
 returns : tie.Need-returns
 returns c = search tests
 
--- src/range.rt:19:9
 returns-2 : tie.Need-returns-2
 returns-2 c = search tests
 
--- src/range.rt:12:1
 returns-3 : tie.Need-returns-3
 returns-3 c = search tests
 

@@ -1,35 +1,27 @@
 use borrow.Author.Tests.{eq-eqb, ne-eqb}
-use Rattle.run.specs.Reckoning.{belowZero}
 use borrow.Author.Needs.{needs}
+use Rattle.run.specs.Reckoning.{belowZero}
 use Rattle.run.proofs.reckoning.below_zero.Statement.{statement}
 use Rattle.run.proofs.reckoning.below_zero.Tie as tie
-use Rattle.run.proofs.reckoning.below_zero.Reads as reads
-use Rattle.run.proofs.reckoning.below_zero.Lts as lts
 
--- src/reckoning.rt:22:18
 enum-known-last : tie.Need-enum-known-last
 enum-known-last c = search needs
 
--- src/reckoning.rt:24:17
 returns : tie.Need-returns
 unfolding belowZero
 returns c = rw (c .before .before .before .before .last .given .1, ne-eqb (c .before .before .before .before .before .before .args .node .slot .0) (c .before .before .before .before .last .given .0 .0 .0) (c .if1 .taken))
 
--- src/reckoning.rt:27:17
 returns-2 : tie.Need-returns-2
 unfolding belowZero
 returns-2 c = rw (c .before .before .before .before .before .last .given .1, eq-eqb (c .before .before .before .before .before .before .before .args .node .slot .0) (c .before .before .before .before .before .last .given .0 .0 .0) (c .before .if1 .left), c .if2 .taken)
 
--- src/reckoning.rt:31:26
 enum-told : tie.Need-enum-told
 enum-told c = search needs
 
--- src/reckoning.rt:18:1
 returns-3 : tie.Need-returns-3
 unfolding belowZero
 returns-3 c = rw (c .before .before .before .before .before .before .before .last .given .1, eq-eqb (c .before .before .before .before .before .before .before .before .before .args .node .slot .0) (c .before .before .before .before .before .before .before .last .given .0 .0 .0) (c .before .before .before .if1 .left), c .before .before .if2 .left)
 
--- src/reckoning.rt:18:1
 returns-4 : tie.Need-returns-4
 unfolding belowZero
 returns-4 c = rw (c .enum-told .given .1)

@@ -1,51 +1,38 @@
-use Rattle.run.specs.Reckoning.{reckoningNumber}
-use Rattle.laws.specs.Row.{firstOf}
-use borrow.Author.Tests.{le-leb, lt-leb, not-true, not-false}
 use mathlib.Core.Path.{sym, _∙_}
+use borrow.Author.Tests.{le-leb, lt-leb, not-true, not-false}
 use borrow.Author.Needs.{needs}
+use Rattle.laws.specs.Row.{firstOf}
+use Rattle.run.specs.Reckoning.{reckoningNumber}
 use Rattle.run.proofs.reckoning.reckoning_number.Statement.{statement}
 use Rattle.run.proofs.reckoning.reckoning_number.Tie as tie
-use Rattle.run.proofs.reckoning.reckoning_number.Reads as reads
-use Rattle.run.proofs.reckoning.reckoning_number.Lts as lts
-use Rattle.run.proofs.range.in_range.Reads as in-range-reads
-use Rattle.run.proofs.reckoning.below_zero.Reads as below-zero-reads
 
--- src/reckoning.rt:70:9
 in-range-requires : tie.Need-in-range-requires
 in-range-requires c κs = search needs
 
--- src/reckoning.rt:71:9
 returns : tie.Need-returns
 unfolding reckoningNumber firstOf
 returns c = rw (sym (c .before .in-range .ensures) ∙ not-true (c .before .in-range .result) (c .if1 .taken))
 
--- src/reckoning.rt:74:9
 returns-2 : tie.Need-returns-2
 unfolding reckoningNumber firstOf
 returns-2 c = rw (sym (c .before .before .before .before .in-range .ensures) ∙ not-false (c .before .before .before .before .in-range .result) (c .before .before .before .if1 .left), le-leb (c .before .before .before .before .before .args .plan .nodes .0) (c .before .before .before .before .before .args .i .0) (c .if2 .taken))
 
--- src/reckoning.rt:77:26
 cast-node : tie.Need-cast-node
 cast-node c = search needs
 
--- src/reckoning.rt:77:16
 mul-node : tie.Need-mul-node
 mul-node c = search needs
 
--- src/reckoning.rt:77:16
 element-copy-out-node : tie.Need-element-copy-out-node
 element-copy-out-node c = search needs
 
--- src/reckoning.rt:78:8
 below-zero-requires : tie.Need-below-zero-requires
 below-zero-requires c κs = search needs
 
--- src/reckoning.rt:79:9
 returns-3 : tie.Need-returns-3
 unfolding reckoningNumber firstOf
 returns-3 c = rw (sym (c .before .before .before .before .before .before .before .before .in-range .ensures) ∙ not-false (c .before .before .before .before .before .before .before .before .in-range .result) (c .before .before .before .before .before .before .before .if1 .left), lt-leb (c .before .before .before .before .before .before .before .before .before .args .plan .nodes .0) (c .before .before .before .before .before .before .before .before .before .args .i .0) (c .before .before .before .before .if2 .left), sym (c .before .below-zero .ensures) ∙ c .if3 .taken)
 
--- src/reckoning.rt:66:1
 returns-4 : tie.Need-returns-4
 unfolding reckoningNumber firstOf
 returns-4 c = rw (sym (c .before .before .before .before .before .before .before .before .in-range .ensures) ∙ not-false (c .before .before .before .before .before .before .before .before .in-range .result) (c .before .before .before .before .before .before .before .if1 .left), lt-leb (c .before .before .before .before .before .before .before .before .before .args .plan .nodes .0) (c .before .before .before .before .before .before .before .before .before .args .i .0) (c .before .before .before .before .if2 .left), sym (c .before .below-zero .ensures) ∙ c .if3 .left)

@@ -1,32 +1,24 @@
+use borrow.Author.Tests.{ltb-true}
+use borrow.Author.Needs.{needs}
+use Rattle.run.specs.Reckoning.{reckoning}
 use Rattle.run.proofs.Reckonings.{guard-reached}
 use Rattle.run.proofs.Ranges.{within-node}
-use borrow.Author.Tests.{ltb-true}
-use Rattle.run.specs.Reckoning.{reckoning}
-use borrow.Author.Needs.{needs}
 use Rattle.run.proofs.reckoning.ticks_reckoned.Statement.{statement}
 use Rattle.run.proofs.reckoning.ticks_reckoned.Tie as tie
-use Rattle.run.proofs.reckoning.ticks_reckoned.Reads as reads
-use Rattle.run.proofs.reckoning.ticks_reckoned.Lts as lts
-use Rattle.run.proofs.reckoning.ticks_from.Reads as ticks-from-reads
 
--- src/reckoning.rt:55:18
 enum-known-last : tie.Need-enum-known-last
 enum-known-last c = search needs
 
--- src/reckoning.rt:57:17
 returns : tie.Need-returns
 unfolding reckoning
 returns c = rw (c .before .before .last .given .1, c .if1 .taken)
 
--- src/reckoning.rt:59:13
 ticks-from-requires : tie.Need-ticks-from-requires
 ticks-from-requires c κs = (c .before .before .before .before .pre .0, (c .before .before .before .before .pre .1 .0, ltb-true (c .before .before .last .given .0 .0 .0) (c .before .before .before .before .args .plan .frame .0) (rw (c .before .before .last .given .1) at (c .before .before .before .before .pre .1 .1 .0))))
 
--- src/reckoning.rt:59:45
 cast-result : tie.Need-cast-result
 cast-result c = search needs
 
--- src/reckoning.rt:59:13
 sub-result : tie.Need-sub-result
 sub-result c =
     let b = c .before .before .before .before .before .before in
@@ -34,20 +26,16 @@ sub-result c =
     let reached = guard-reached (b .args .plan) (b .pre .0) (l .0 .0) (b .args .node) (ltb-true (l .0 .0 .0) (b .args .plan .frame .0) (rw (l .1) at (b .pre .1 .1 .0))) (within-node (b .args .plan) (b .args .node) (b .pre .1 .0)) (c .before .before .if1 .left) (rw (l .1) at (b .pre .1 .1 .1)) in
     rw (c .before .ticks-from .ensures) reached
 
--- src/reckoning.rt:61:26
 enum-told : tie.Need-enum-told
 enum-told c = search needs
 
--- src/reckoning.rt:61:26
 cast-result-2 : tie.Need-cast-result-2
 cast-result-2 c = search needs
 
--- src/reckoning.rt:47:1
 returns-2 : tie.Need-returns-2
 unfolding reckoning
 returns-2 c = rw (c .before .before .before .before .last .given .1, c .before .before .if1 .left, ← c .before .ticks-from .ensures)
 
--- src/reckoning.rt:47:1
 returns-3 : tie.Need-returns-3
 unfolding reckoning
 returns-3 c = rw (c .before .enum-told .given .1)

@@ -1,22 +1,17 @@
-use Rattle.laws.proofs.Bools.{or-true-right}
-use lib.Dec.{ltb}
-use borrow.Author.Tests.{le-ltb, lt-ltb}
 use mathlib.Core.Bool.{Bool, _||_, or-false}
 use mathlib.Core.Path.{sym, ap, _∙_}
-use borrow.Author.Needs.{needs}
+use borrow.Author.Tests.{le-ltb, lt-ltb}
+use lib.Dec.{ltb}
+use Rattle.laws.proofs.Bools.{or-true-right}
 use Rattle.run.proofs.sending.node_hearing.Statement.{statement}
 use Rattle.run.proofs.sending.node_hearing.Tie as tie
-use Rattle.run.proofs.sending.node_hearing.Reads as reads
-use Rattle.run.proofs.sending.node_hearing.Lts as lts
 
--- src/sending.rt:53:9
 returns : tie.Need-returns
 returns c =
     let a = c .before .before .before .args in
     let deaf = sym (or-false (a .node .pending)) ∙ ap (λ (b : Bool). a .node .pending || b) (sym (le-ltb (a .node .slot .0) (a .plan .active .0) (c .if1 .taken))) in
     λ j. record { clock = a .node .clock; slot = a .node .slot; time = a .node .time; mode = a .node .mode; pending = deaf j }
 
--- src/sending.rt:49:1
 returns-2 : tie.Need-returns-2
 returns-2 c =
     let a = c .before .before .before .args in

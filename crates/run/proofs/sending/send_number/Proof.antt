@@ -1,41 +1,31 @@
-use borrow.Author.Tests.{lt-leb, not-true, not-false}
 use mathlib.Core.Path.{sym, _∙_}
+use borrow.Author.Tests.{lt-leb, not-true, not-false}
+use borrow.Author.Needs.{needs}
 use Rattle.laws.specs.Row.{firstOf}
 use Rattle.laws.proofs.Tests.{tests}
-use borrow.Author.Needs.{needs}
 use Rattle.run.proofs.sending.send_number.Statement.{statement}
 use Rattle.run.proofs.sending.send_number.Tie as tie
-use Rattle.run.proofs.sending.send_number.Reads as reads
-use Rattle.run.proofs.sending.send_number.Lts as lts
-use Rattle.run.proofs.modes.is_about.Reads as is-about-reads
 
--- src/sending.rt:23:9
 returns : tie.Need-returns
 unfolding firstOf
 returns c = search tests
 
--- src/sending.rt:25:26
 cast-node : tie.Need-cast-node
 cast-node c = search needs
 
--- src/sending.rt:25:16
 mul-node : tie.Need-mul-node
 mul-node c = search needs
 
--- src/sending.rt:25:16
 element-copy-out-node : tie.Need-element-copy-out-node
 element-copy-out-node c = search needs
 
--- src/sending.rt:27:9
 is-about-requires : tie.Need-is-about-requires
 is-about-requires c κs = search needs
 
--- src/sending.rt:28:9
 returns-2 : tie.Need-returns-2
 unfolding firstOf
 returns-2 c = rw (lt-leb (c .before .before .before .before .before .before .before .args .plan .nodes .0) (c .before .before .before .before .before .before .before .args .i .0) (c .before .before .before .before .if1 .left), sym (c .before .is-about .ensures) ∙ not-true (c .before .is-about .result) (c .if2 .taken))
 
--- src/sending.rt:18:1
 returns-3 : tie.Need-returns-3
 unfolding firstOf
 returns-3 c = rw (lt-leb (c .before .before .before .before .before .before .before .args .plan .nodes .0) (c .before .before .before .before .before .before .before .args .i .0) (c .before .before .before .before .if1 .left), sym (c .before .is-about .ensures) ∙ not-false (c .before .is-about .result) (c .if2 .left))

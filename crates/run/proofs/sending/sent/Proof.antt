@@ -1,17 +1,14 @@
+use Prim.Native.Nat.{ℕ, _≤_, _-_}
+use mathlib.Core.Path.{_≡_, ap, _∙_}
+use native.Mathlib.Omega.{arith}
+use borrow.Author.Needs.{needs}
+use lib.ListN.{length, length-map}
 use Rattle.run.specs.declared.Last.the-variants.{At}
-use Rattle.run.proofs.Changes.{changed, changed-none, changed-more}
 use Rattle.run.specs.Moves.{nodeAtSend}
 use Rattle.run.specs.State.{node}
-use lib.ListN.{length, length-map}
-use native.Mathlib.Omega.{arith}
-use mathlib.Core.Path.{_≡_, ap, _∙_}
-use Prim.Native.Nat.{ℕ, _≤_, _-_}
-use borrow.Author.Needs.{needs}
+use Rattle.run.proofs.Changes.{changed, changed-none, changed-more}
 use Rattle.run.proofs.sending.sent.Statement.{statement}
 use Rattle.run.proofs.sending.sent.Tie as tie
-use Rattle.run.proofs.sending.sent.Reads as reads
-use Rattle.run.proofs.sending.sent.Lts as lts
-use Rattle.run.proofs.sending.node_at_send.Reads as node-at-send-reads
 
 abbrev Inv-loop : tie.InvT-loop
 Inv-loop plan n sender slot next₀ k₀ next k = (k ≤ n) × (next ≡ changed k (nodeAtSend plan sender) next₀)
@@ -19,55 +16,42 @@ Inv-loop plan n sender slot next₀ k₀ next k = (k ≤ n) × (next ≡ changed
 abbrev μ-loop : tie.MeasureT-loop
 μ-loop plan n sender slot next₀ k₀ next k = n - k
 
--- src/sending.rt:75:13
 cast-n : tie.Need-cast-n Inv-loop μ-loop
 cast-n c = search needs
 
--- src/sending.rt:76:18
 cast-sender : tie.Need-cast-sender Inv-loop μ-loop
 cast-sender c = search needs
 
--- src/sending.rt:77:16
 mul-node : tie.Need-mul-node Inv-loop μ-loop
 mul-node c = search needs
 
--- src/sending.rt:77:16
 element-copy-out-node : tie.Need-element-copy-out-node Inv-loop μ-loop
 element-copy-out-node c = search needs
 
--- src/sending.rt:80:5
 loop-holds : tie.Need-loop-holds Inv-loop μ-loop
 loop-holds c = (search needs, changed-none _ _)
 
--- src/sending.rt:81:20
 mul-node-2 : tie.Need-mul-node-2 Inv-loop μ-loop
 mul-node-2 c = search needs
 
--- src/sending.rt:81:20
 element-copy-out-node-2 : tie.Need-element-copy-out-node-2 Inv-loop μ-loop
 element-copy-out-node-2 c = search needs
 
--- src/sending.rt:82:25
 node-at-send-requires : tie.Need-node-at-send-requires Inv-loop μ-loop
 node-at-send-requires c κs = search needs
 
--- src/sending.rt:82:9
 mul-t19 : tie.Need-mul-t19 Inv-loop μ-loop
 mul-t19 c = search needs
 
--- src/sending.rt:82:9
 element-set-from-next : tie.Need-element-set-from-next Inv-loop μ-loop
 element-set-from-next c = search needs
 
--- src/sending.rt:80:9
 add-k : tie.Need-add-k Inv-loop μ-loop
 add-k c = search needs
 
--- src/sending.rt:80:5
 loop-less : tie.Need-loop-less Inv-loop μ-loop
 loop-less c = search needs
 
--- src/sending.rt:80:5
 loop-again : tie.Need-loop-again Inv-loop μ-loop
 loop-again c =
     let b = c .before .before .before .before .before .before .before .before in
@@ -75,7 +59,6 @@ loop-again c =
     let room : length (b .args .t2 .nodes) ≡ 32 = simp length-map at (b .good .1 .0 .1 .1 .0 .1 .0 .1) in
     (search needs, changed-more _ (b .args .t2) (l .k) (l .next) (c .node-at-send .result) (omega arith) (l .inv .1) (c .node-at-send .ensures))
 
--- src/sending.rt:70:1
 returns : tie.Need-returns Inv-loop μ-loop
 returns c =
     let a = c .before .before .before .before .before .before .before .args in

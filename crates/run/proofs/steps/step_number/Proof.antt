@@ -1,60 +1,43 @@
-use Rattle.run.specs.Steps.{stepNumber}
-use Rattle.laws.specs.Row.{firstOf}
 use mathlib.Core.Path.{sym, _∙_}
 use borrow.Author.Needs.{needs}
+use Rattle.laws.specs.Row.{firstOf}
+use Rattle.run.specs.Steps.{stepNumber}
 use Rattle.run.proofs.steps.step_number.Statement.{statement}
 use Rattle.run.proofs.steps.step_number.Tie as tie
-use Rattle.run.proofs.steps.step_number.Reads as reads
-use Rattle.run.proofs.steps.step_number.Lts as lts
-use Rattle.run.proofs.delaying.delay_number.Reads as delay-number-reads
-use Rattle.run.proofs.elsewhere.is_apart.Reads as is-apart-reads
-use Rattle.run.proofs.sending.send_number.Reads as send-number-reads
-use Rattle.run.proofs.ticking.tick_number.Reads as tick-number-reads
 
--- src/steps.rt:25:8
 is-apart-requires : tie.Need-is-apart-requires
 is-apart-requires c κs = search needs
 
--- src/steps.rt:26:9
 returns : tie.Need-returns
 unfolding stepNumber firstOf
 returns c = rw (c .before .before .pre .1, sym (c .before .is-apart .ensures) ∙ c .if1 .taken)
 
--- src/steps.rt:29:21
 enum-known-step : tie.Need-enum-known-step
 enum-known-step c = search needs
 
--- src/steps.rt:29:27
 delay-number-requires : tie.Need-delay-number-requires
 delay-number-requires c κs = search needs
 
--- src/steps.rt:30:22
 enum-known-step-2 : tie.Need-enum-known-step-2
 enum-known-step-2 c = search needs
 
--- src/steps.rt:30:28
 tick-number-requires : tie.Need-tick-number-requires
 tick-number-requires c κs = search needs
 
--- src/steps.rt:31:22
 enum-known-step-3 : tie.Need-enum-known-step-3
 enum-known-step-3 c = search needs
 
--- src/steps.rt:31:28
 send-number-requires : tie.Need-send-number-requires
 send-number-requires c κs = search needs
 
--- src/steps.rt:20:1
 returns-2 : tie.Need-returns-2
 unfolding stepNumber firstOf
 returns-2 c = rw (c .before .before .step .given .1, c .before .before .before .before .before .before .pre .1, sym (c .before .before .before .before .before .is-apart .ensures) ∙ c .before .before .before .before .if1 .left) (c .delay-number .ensures)
 
--- src/steps.rt:20:1
 returns-3 : tie.Need-returns-3
 unfolding stepNumber firstOf
 returns-3 c = rw (c .before .before .step2 .given .1, c .before .before .before .before .before .before .pre .1, sym (c .before .before .before .before .before .is-apart .ensures) ∙ c .before .before .before .before .if1 .left) (c .tick-number .ensures)
 
--- src/steps.rt:20:1
 returns-4 : tie.Need-returns-4
 unfolding stepNumber firstOf
 returns-4 c = rw (c .before .before .step3 .given .1, c .before .before .before .before .before .before .pre .1, sym (c .before .before .before .before .before .is-apart .ensures) ∙ c .before .before .before .before .if1 .left) (c .send-number .ensures)

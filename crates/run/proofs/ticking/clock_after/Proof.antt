@@ -1,29 +1,22 @@
+use borrow.Author.Needs.{needs}
 use Rattle.laws.proofs.Tests.{tests}
 use Rattle.run.specs.Moves.{clockAfter}
-use borrow.Author.Needs.{needs}
 use Rattle.run.proofs.ticking.clock_after.Statement.{statement}
 use Rattle.run.proofs.ticking.clock_after.Tie as tie
-use Rattle.run.proofs.ticking.clock_after.Reads as reads
-use Rattle.run.proofs.ticking.clock_after.Lts as lts
 
--- src/ticking.rt:27:21
 add-t4 : tie.Need-add-t4
 add-t4 c = search needs
 
--- src/ticking.rt:27:9
 returns : tie.Need-returns
 unfolding clockAfter
 returns c = search (tests, c .before .if1 .taken)
 
--- src/ticking.rt:29:11
 add-t5 : tie.Need-add-t5
 add-t5 c = search needs
 
--- src/ticking.rt:29:10
 rem-t6 : tie.Need-rem-t6
 rem-t6 c = search needs
 
--- src/ticking.rt:21:1
 returns-2 : tie.Need-returns-2
 unfolding clockAfter
 returns-2 c = search (tests, c .before .before .if1 .left)

@@ -1,49 +1,37 @@
-use Rattle.run.proofs.Outcomes.{slot-moves, slot-stays, slot-about, slot-sending}
 use mathlib.Core.Path.{sym}
 use native.Mathlib.Omega.{arith}
 use borrow.Author.Needs.{needs}
+use Rattle.run.proofs.Outcomes.{slot-moves, slot-stays, slot-about, slot-sending}
 use Rattle.run.proofs.ticking.slot_after.Statement.{statement}
 use Rattle.run.proofs.ticking.slot_after.Tie as tie
-use Rattle.run.proofs.ticking.slot_after.Reads as reads
-use Rattle.run.proofs.ticking.slot_after.Lts as lts
 
--- src/ticking.rt:67:32
 enum-told : tie.Need-enum-told
 enum-told c = search needs
 
--- src/ticking.rt:67:32
 sub-if1 : tie.Need-sub-if1
 sub-if1 c = search needs
 
--- src/ticking.rt:68:17
 returns : tie.Need-returns
 returns c = let a = c .before .before .before .before .before .args in rw (c .before .before .before .enum-told .given .1) (sym (slot-stays (a .plan) (a .node .clock .0) (a .node .slot .0) (omega arith)))
 
--- src/ticking.rt:70:19
 add-t7 : tie.Need-add-t7
 add-t7 c = search needs
 
--- src/ticking.rt:70:18
 rem-t8 : tie.Need-rem-t8
 rem-t8 c = search needs
 
--- src/ticking.rt:72:30
 enum-told-2 : tie.Need-enum-told-2
 enum-told-2 c = search needs
 
--- src/ticking.rt:73:26
 enum-told-3 : tie.Need-enum-told-3
 enum-told-3 c = search needs
 
--- src/ticking.rt:59:1
 returns-2 : tie.Need-returns-2
 returns-2 c = let a = c .before .before .before .before .before .before .before .args in rw (c .before .before .before .before .before .enum-told .given .1) (sym (slot-moves (a .plan) (a .node .clock .0) (a .node .slot .0) (omega arith)))
 
--- src/ticking.rt:59:1
 returns-3 : tie.Need-returns-3
 returns-3 c = let a = c .before .before .args in rw (c .enum-told2 .given .1) (sym (slot-about (a .plan) (a .node .clock .0) (a .node .slot .0)))
 
--- src/ticking.rt:59:1
 returns-4 : tie.Need-returns-4
 returns-4 c = let a = c .before .before .args in rw (c .enum-told3 .given .1) (sym (slot-sending (a .plan) (a .node .clock .0) (a .node .slot .0)))
 

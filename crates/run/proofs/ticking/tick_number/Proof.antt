@@ -1,34 +1,26 @@
+use borrow.Author.Needs.{needs}
 use Rattle.laws.specs.Row.{firstOf}
 use Rattle.laws.proofs.Tests.{tests}
-use borrow.Author.Needs.{needs}
 use Rattle.run.proofs.ticking.tick_number.Statement.{statement}
 use Rattle.run.proofs.ticking.tick_number.Tie as tie
-use Rattle.run.proofs.ticking.tick_number.Reads as reads
-use Rattle.run.proofs.ticking.tick_number.Lts as lts
 
--- src/ticking.rt:113:9
 returns : tie.Need-returns
 unfolding firstOf
 returns c = search tests
 
--- src/ticking.rt:115:26
 cast-node : tie.Need-cast-node
 cast-node c = search needs
 
--- src/ticking.rt:115:16
 mul-node : tie.Need-mul-node
 mul-node c = search needs
 
--- src/ticking.rt:115:16
 element-copy-out-node : tie.Need-element-copy-out-node
 element-copy-out-node c = search needs
 
--- src/ticking.rt:117:9
 returns-2 : tie.Need-returns-2
 unfolding firstOf
 returns-2 c = search tests
 
--- src/ticking.rt:108:1
 returns-3 : tie.Need-returns-3
 unfolding firstOf
 returns-3 c = search tests
