@@ -2,6 +2,4 @@ pub mod Outcomes
 pub mod Nodes
 pub mod Legal
 pub mod Ranges
-pub mod Changes
 pub mod Apartness
-pub mod Reckonings
