@@ -1,3 +1,4 @@
+-- g + 1 after a message, else one more modulo k0; a clock in range makes neither wrap.
 use borrow.Author.Needs.{needs}
 use Rattle.laws.proofs.Tests.{tests}
 use Rattle.run.specs.Moves.{clockAfter}

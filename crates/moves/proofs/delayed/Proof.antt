@@ -1,3 +1,4 @@
+-- After i turns the first i nodes are delayed. The next node is as it was, so its time stays within max and does not wrap.
 use Prim.Native.Nat.{ℕ, _≤_, _-_}
 use mathlib.Core.Path.{_≡_, ap, _∙_}
 use native.Mathlib.Omega.{arith}

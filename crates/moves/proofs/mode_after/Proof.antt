@@ -1,3 +1,4 @@
+-- Each way through the match is one outcome of `Outcomes`.
 use mathlib.Core.Path.{sym}
 use native.Mathlib.Omega.{arith}
 use borrow.Author.Needs.{needs}

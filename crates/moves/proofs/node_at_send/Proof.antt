@@ -1,3 +1,4 @@
+-- The sender, or any other node.
 use borrow.Author.Needs.{needs}
 use Rattle.laws.proofs.Tests.{tests}
 use Rattle.moves.proofs.node_at_send.Statement.{statement}

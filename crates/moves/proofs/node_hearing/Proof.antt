@@ -1,3 +1,4 @@
+-- In slot n or above the mark stays; below n it is set.
 use mathlib.Core.Bool.{Bool, _||_, or-false}
 use mathlib.Core.Path.{sym, ap, _∙_}
 use borrow.Author.Tests.{le-ltb, lt-ltb}

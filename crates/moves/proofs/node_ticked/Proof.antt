@@ -1,3 +1,4 @@
+-- The node is put together field by field, each from the promise on it.
 use mathlib.Core.Bool.{false}
 use borrow.Author.Needs.{needs}
 use Rattle.run.proofs.Ranges.{within-node}

@@ -1,3 +1,4 @@
+-- After k turns the first k nodes are as the send makes them.
 use Prim.Native.Nat.{ℕ, _≤_, _-_}
 use mathlib.Core.Path.{_≡_, ap, _∙_}
 use native.Mathlib.Omega.{arith}

@@ -1,3 +1,4 @@
+-- One place is read, ticked and stored; a run in range has every node in range.
 use borrow.Author.Needs.{needs}
 use Rattle.run.proofs.Ranges.{node-within, range-node}
 use Rattle.moves.proofs.ticked.Statement.{statement}

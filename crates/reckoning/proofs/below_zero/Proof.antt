@@ -1,3 +1,4 @@
+-- The last message's slot, then the mark, then the clock.
 use borrow.Author.Tests.{eq-eqb, ne-eqb}
 use borrow.Author.Needs.{needs}
 use Rattle.run.specs.Reckoning.{belowZero}

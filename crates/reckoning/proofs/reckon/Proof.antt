@@ -1,3 +1,4 @@
+-- The plan's number, then the reckoning of a tested plan.
 use mathlib.Core.Path.{sym, _∙_}
 use borrow.Author.Tests.{eq-eqb, ne-eqb}
 use borrow.Author.Needs.{needs}

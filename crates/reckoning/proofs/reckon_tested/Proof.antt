@@ -1,3 +1,4 @@
+-- What 10, 12 and 17 let through is what the ticks require.
 use mathlib.Core.Path.{sym, _∙_}
 use borrow.Author.Tests.{eq-eqb, ne-eqb}
 use borrow.Author.Needs.{needs}

@@ -1,3 +1,4 @@
+-- The distance is below C, so the ticks are fewer than a frame has and fit a u32.
 use mathlib.Core.Path.{refl}
 use native.Mathlib.Omega.{arith}
 use borrow.Author.Needs.{needs}

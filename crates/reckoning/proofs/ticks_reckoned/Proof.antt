@@ -1,3 +1,4 @@
+-- The three cases of the reckoning; where 17 does not speak, g can be taken away.
 use borrow.Author.Tests.{ltb-true}
 use borrow.Author.Needs.{needs}
 use Rattle.run.specs.Reckoning.{reckoning}

@@ -1,3 +1,4 @@
+-- The array that is made holds a fresh node at every place.
 use mathlib.Core.Path.{refl}
 use Rattle.run.specs.State.{freshRun}
 use Rattle.run.proofs.fresh.Statement.{statement}

@@ -1,3 +1,4 @@
+-- The plan's number, then 10, then the test of a tested plan.
 use mathlib.Core.Path.{sym, _∙_}
 use borrow.Author.Tests.{eq-eqb, ne-eqb, not-true, not-false}
 use borrow.Author.Needs.{needs}

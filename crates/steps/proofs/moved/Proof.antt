@@ -1,3 +1,4 @@
+-- What each move requires, a legal step has.
 use borrow.Author.Needs.{needs}
 use Rattle.run.specs.declared.Step.the-variants.{Delay, TickOf, SendOf}
 use Rattle.run.proofs.Legal.{legal-step}

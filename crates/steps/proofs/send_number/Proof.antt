@@ -1,3 +1,4 @@
+-- The rows of a send in turn.
 use mathlib.Core.Path.{sym, _∙_}
 use borrow.Author.Tests.{lt-leb, not-true, not-false}
 use borrow.Author.Needs.{needs}

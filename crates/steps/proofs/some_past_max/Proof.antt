@@ -1,3 +1,4 @@
+-- After i turns no node below i would pass max. A time in range is at most max, so the difference does not wrap.
 use Prim.Native.Nat.{ℕ, _+_, _≤_, _-_}
 use mathlib.Core.Bool.{false}
 use mathlib.Core.Path.{_≡_, sym, ap, _∙_}

@@ -1,3 +1,4 @@
+-- Refused, the run stays as it was; done, the step was legal and so keeps the range.
 use mathlib.Core.Path.{_≡_, sym, _∙_}
 use native.Mathlib.Omega.{arith}
 use borrow.Author.Tests.{eq-eqb, ne-eqb}

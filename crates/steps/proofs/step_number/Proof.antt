@@ -1,3 +1,4 @@
+-- 10 does not speak, so 11 does or the rows of the kind of step decide.
 use mathlib.Core.Path.{sym, _∙_}
 use borrow.Author.Needs.{needs}
 use Rattle.laws.specs.Row.{firstOf}

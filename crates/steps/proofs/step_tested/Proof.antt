@@ -1,3 +1,4 @@
+-- Outside its range the run is refused by 10; else the step in range decides.
 use mathlib.Core.Path.{sym, _∙_}
 use borrow.Author.Tests.{not-true, not-false}
 use borrow.Author.Needs.{needs}

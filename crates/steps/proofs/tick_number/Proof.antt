@@ -1,3 +1,4 @@
+-- The rows of a tick in turn.
 use borrow.Author.Needs.{needs}
 use Rattle.laws.specs.Row.{firstOf}
 use Rattle.laws.proofs.Tests.{tests}

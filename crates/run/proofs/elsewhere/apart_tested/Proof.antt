@@ -1,3 +1,4 @@
+-- The lowest sending node decides: each answer is a law of `Apartness`.
 use mathlib.Core.Path.{sym}
 use borrow.Author.Needs.{needs}
 use Rattle.run.proofs.Apartness.{in-step-silent, in-step-together, out-lowest}

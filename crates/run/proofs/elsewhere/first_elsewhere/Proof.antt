@@ -1,3 +1,4 @@
+-- After j turns no node below j is in another slot than node i.
 use Prim.Native.Nat.{ℕ, _≤_, _<_, _-_}
 use mathlib.Core.Bool.{false, not}
 use mathlib.Core.Path.{_≡_, sym, ap}

@@ -1,3 +1,4 @@
+-- The answer of the test tells whether the run is out of step.
 use mathlib.Core.Path.{sym, ap, _∙_}
 use borrow.Author.Needs.{needs}
 use Rattle.run.proofs.Apartness.{isOut, out-of-step-told}

@@ -1,3 +1,4 @@
+-- After i turns every node below i is in range; a node outside decides at once.
 use Prim.Native.Nat.{ℕ, _≤_, _-_}
 use mathlib.Core.Path.{_≡_, sym, ap, _∙_}
 use mathlib.Core.Bool.{true}

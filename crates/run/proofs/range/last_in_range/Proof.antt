@@ -1,3 +1,4 @@
+-- The two cases of the last message.
 use borrow.Author.Needs.{needs}
 use Rattle.run.proofs.range.last_in_range.Statement.{statement}
 use Rattle.run.proofs.range.last_in_range.Tie as tie

@@ -1,3 +1,4 @@
+-- The three tests in turn.
 use Rattle.laws.proofs.Tests.{tests}
 use Rattle.run.proofs.range.node_in_range.Statement.{statement}
 use Rattle.run.proofs.range.node_in_range.Tie as tie
