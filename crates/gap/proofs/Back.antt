@@ -58,10 +58,10 @@ pub record Nearest (P : Plan) (s q : ℕ) : Type 0 where
 
 module _ (P : Plan) (s : ℕ) (hs : s < P .frame .0) (w far : ℕ) (hw : w < P .frame .0) (sw : sends P w ≡ true) (hf : far < P .frame .0) (reach : Reaches (P .frame .0) w far s) where
   nearest-stops : (left at e : ℕ) → at < P .frame .0 → 1 ≤ e → e ≤ far → far < e + left → Reaches (P .frame .0) at e s
-      → ((x f : ℕ) → x < P .frame .0 → 1 ≤ f → f < e → Reaches (P .frame .0) x f s → sends P x ≡ false) → Nearest P s (nearest P left at)
+      → ((x f : ℕ) → x < P .frame .0 → 1 ≤ f → f < e → Reaches (P .frame .0) x f s → sends P x ≡ false) → Nearest P s (nearest (sends P) (P .frame .0) left at)
   unfolding nearest
   nearest-stops zero at e ha h1 h2 h3 r clear = absurd (omega arith)
-  nearest-stops (suc left) at e ha h1 h2 h3 r clear = go (sends P at) refl (nearest-stops left (slotBefore P at) (e + 1))
+  nearest-stops (suc left) at e ha h1 h2 h3 r clear = go (sends P at) refl (nearest-stops left (slotBefore (P .frame .0) at) (e + 1))
     where
       more : sends P at ≡ false → (x f : ℕ) → x < P .frame .0 → 1 ≤ f → f < e + 1 → Reaches (P .frame .0) x f s → sends P x ≡ false
       more q x f hx l1 l2 rx = compare (decLt f e)
@@ -71,16 +71,16 @@ module _ (P : Plan) (s : ℕ) (hs : s < P .frame .0) (w far : ℕ) (hw : w < P .
           compare (no l) = let e′ : f ≡ e = omega arith in let z : x ≡ at = reaches-same (P .frame .0) x at e s hx ha hs (rw e′ at rx) r in rw z q
 
       go : (b : Bool) → sends P at ≡ b
-          → (slotBefore P at < P .frame .0 → 1 ≤ e + 1 → e + 1 ≤ far → far < e + 1 + left → Reaches (P .frame .0) (slotBefore P at) (e + 1) s
-          → ((x f : ℕ) → x < P .frame .0 → 1 ≤ f → f < e + 1 → Reaches (P .frame .0) x f s → sends P x ≡ false) → Nearest P s (nearest P left (slotBefore P at)))
-          → Nearest P s (nearest P (suc left) at)
+          → (slotBefore (P .frame .0) at < P .frame .0 → 1 ≤ e + 1 → e + 1 ≤ far → far < e + 1 + left → Reaches (P .frame .0) (slotBefore (P .frame .0) at) (e + 1) s
+          → ((x f : ℕ) → x < P .frame .0 → 1 ≤ f → f < e + 1 → Reaches (P .frame .0) x f s → sends P x ≡ false) → Nearest P s (nearest (sends P) (P .frame .0) left (slotBefore (P .frame .0) at)))
+          → Nearest P s (nearest (sends P) (P .frame .0) (suc left) at)
       go true q rec = rw (nearest, q) (record { within = ha; sending = q; d = e; low = h1; high = omega arith; reaches = r; clear = clear })
       go false q rec =
           let apart : e ≢ far = λ z. clash (sends P at) (let y : w ≡ at = reaches-same (P .frame .0) w at e s hw ha hs (rw (← z) at reach) r in rw y at sw) q in
-          let hb : slotBefore P at < P .frame .0 = mod-lt (at + P .frame .0 - 1) (omega arith) in
+          let hb : slotBefore (P .frame .0) at < P .frame .0 = mod-lt (at + P .frame .0 - 1) (omega arith) in
           rw (nearest, q)
           (rec hb (omega arith) (omega arith) (omega arith)
-          (back-more (P .frame .0) (slotBefore P at) at e s hb (omega arith) (before-reaches (P .frame .0) at ha) r)
+          (back-more (P .frame .0) (slotBefore (P .frame .0) at) at e s hb (omega arith) (before-reaches (P .frame .0) at ha) r)
           (more q))
 
 module _ (P : Plan) (o : Sound P) (i : ℕ) (hi : i < P .nodes .0) where
@@ -92,13 +92,13 @@ module _ (P : Plan) (o : Sound P) (i : ℕ) (hi : i < P .nodes .0) where
       let hs : s < C = own-in-frame P o i hi in
       let j = other P o s in
       let hw : own P (j .by) < C = own-in-frame P o (j .by) (j .below) in
-      let hb : slotBefore P s < C = mod-lt (s + C - 1) (omega arith) in
+      let hb : slotBefore C s < C = mod-lt (s + C - 1) (omega arith) in
       let far = distance C (own P (j .by)) s in
       let lf : far < C = distance-below C (own P (j .by)) s (omega arith) in
       let r = distance-reaches C (own P (j .by)) s hw hs in
       let one : 1 ≤ far = apart r (j .silent) hw hs in
       nearest-stops P s hs (own P (j .by)) far hw (own-sends P (j .by) (j .below)) lf r
-      (C - 1) (slotBefore P s) 1 hb (omega arith) one (omega arith) (before-reaches C s hs) (λ x f hx l1 l2 rx. absurd (omega arith))
+      (C - 1) (slotBefore C s) 1 hb (omega arith) one (omega arith) (before-reaches C s hs) (λ x f hx l1 l2 rx. absurd (omega arith))
     where
       apart : {C x d s : ℕ} → Reaches C x d s → x ≢ s → x < C → s < C → 1 ≤ d
       apart (on a) n hx hs = omega arith

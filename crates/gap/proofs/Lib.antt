@@ -3,3 +3,4 @@ pub mod Others
 pub mod Back
 pub mod Forth
 pub mod Bounds
+pub mod Table

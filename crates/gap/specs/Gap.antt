@@ -1,23 +1,23 @@
 -- Predecessor, D(s) and M.
 use Prim.Native.Nat.{ℕ, zero, suc, _+_, _-_, _%_}
-use mathlib.Core.Bool.{true, false}
+use mathlib.Core.Bool.{Bool, true, false}
 use Rattle.laws.specs.Below.{firstFrom, largestBelow}
 use Rattle.laws.specs.Ring.{distance}
 use Rattle.plan.specs.declared.Plan.{Plan}
 use Rattle.plan.specs.Sending.{own, sends}
 
--- The slot before s, backwards round the frame.
-abbrev pub slotBefore : Plan → ℕ → ℕ
-slotBefore P s = (s + P .frame .0 - 1) % P .frame .0
+-- The slot before s, backwards round a frame of C.
+abbrev pub slotBefore : (C s : ℕ) → ℕ
+slotBefore C s = (s + C - 1) % C
 
--- The nearest sending slot at s or before it, while `left` slots are left in the frame.
-unfoldable pub nearest : Plan → ℕ → ℕ → ℕ
-nearest P zero s = s
-nearest P (suc left) s = elim (sends P s) [ true ↦ s | false ↦ nearest P left (slotBefore P s) ]
+-- The nearest slot at s or before it that passes, while `left` slots are left in a frame of C.
+unfoldable pub nearest : (ℕ → Bool) → (C left s : ℕ) → ℕ
+nearest f C zero s = s
+nearest f C (suc left) s = elim (f s) [ true ↦ s | false ↦ nearest f C left (slotBefore C s) ]
 
 -- The predecessor of s: the nearest sending slot before it, with every slot but s left.
 unfoldable pub predecessor : Plan → ℕ → ℕ
-predecessor P s = nearest P (P .frame .0 - 1) (slotBefore P s)
+predecessor P s = nearest (sends P) (P .frame .0) (P .frame .0 - 1) (slotBefore (P .frame .0) s)
 
 -- D(s): the number of slots from the predecessor to s, round the frame.
 unfoldable pub gapAt : Plan → ℕ → ℕ

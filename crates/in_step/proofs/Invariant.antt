@@ -99,11 +99,33 @@ module _ (P : Plan) (f : Phase) (y w c s x : ℕ) where
   Case Sending true = ⊥
   Case Sending false = Sends
 
-pub record Good (P : Plan) (f : Phase) (y w : ℕ) (a : NodeState) : Type 0 where
-  pub clock-low : a .clock .0 < P .ticks .0
-  pub slot-low : a .slot .0 < P .frame .0
-  pub time-low : a .time .0 ≤ P .max .0
-  pub here : Case P f y w (a .clock .0) (a .slot .0) (a .time .0) (a .mode) (a .pending)
+-- The same of a node's state a.
+module _ (P : Plan) (f : Phase) (y w : ℕ) (a : NodeState) where
+  abbrev pub KnowsOf : Type 0
+  KnowsOf = Knows P f y w (a .clock .0) (a .slot .0) (a .time .0)
+
+  abbrev pub AboutsOf : Type 0
+  AboutsOf = Abouts P f y w (a .clock .0) (a .slot .0) (a .time .0)
+
+  abbrev pub SendsOf : Type 0
+  SendsOf = Sends P f y w (a .clock .0) (a .slot .0) (a .time .0)
+
+  abbrev pub CaseOf : Mode → Bool → Type 0
+  CaseOf = Case P f y w (a .clock .0) (a .slot .0) (a .time .0)
+
+  pub record Good : Type 0 where
+    pub clock-low : a .clock .0 < P .ticks .0
+    pub slot-low : a .slot .0 < P .frame .0
+    pub time-low : a .time .0 ≤ P .max .0
+    pub here : CaseOf (a .mode) (a .pending)
+
+-- A node's ticks since the beginning of slot p.
+abbrev pub ticksOf : Plan → Phase → NodeState → ℕ
+ticksOf P f a = ticksFrom P (f .p) (a .clock .0) (a .slot .0)
+
+-- A node is short of the last tick of the slot at the distance d.
+abbrev pub Short : Plan → Phase → ℕ → NodeState → Type 0
+Short P f d a = ticksOf P f a + 1 < d * P .ticks .0 + P .ticks .0
 
 -- The last message's slot is some node's own.
 abbrev pub Sent : Plan → Last → Type 0

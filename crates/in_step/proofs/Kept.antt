@@ -1,5 +1,5 @@
 -- Every legal step keeps the invariant: the list of nodes, and induction on the steps.
-use Prim.Native.Nat.{ℕ, _+_, _*_, _-_, _<_}
+use Prim.Native.Nat.{ℕ, _+_, _-_, _<_}
 use mathlib.Core.Path.{_≡_, refl, sym, _∙_}
 use mathlib.Core.Logic.{_≢_}
 use mathlib.Core.Bool.{false}
@@ -7,8 +7,6 @@ use mathlib.Core.List.{List, [], _∷_}
 use lib.ListN.{length}
 use native.Mathlib.Decide.{ℕ-discrete}
 use native.Mathlib.Omega.{arith}
-use Rattle.laws.specs.Ring.{distance}
-use Rattle.laws.proofs.Ring.{distance-self}
 use Rattle.plan.specs.declared.Plan.{Plan}
 use Rattle.plan.specs.Sending.{own}
 use Rattle.plan.specs.Tested.{planNumber, Sound}
@@ -25,21 +23,24 @@ use Rattle.run.specs.Reckoning.{ticksFrom, timeSince}
 use Rattle.run.proofs.Nodes.{room-fresh, node-fresh, room-moved, node-delayed, node-ticked, node-still, node-sender, node-hearing}
 use Rattle.run.proofs.Legal.{DelayLegal, TickLegal, SendLegal, legal-step, done-step}
 use Rattle.in_step.proofs.Numbers.{live-start, slots-some}
-use Rattle.in_step.proofs.Invariant.{Phase, phaseOf, Good, Inv, Holds}
-use Rattle.in_step.proofs.OneNode.{tick-good, delay-good}
-use Rattle.in_step.proofs.Moment.{Turn, due-turn, all-short, gathered, AboutHere, about-here, sender-good, hearer-good}
+use Rattle.in_step.proofs.Invariant.{Phase, phaseOf, Good, Short, Inv, Holds}
+use Rattle.in_step.proofs.OneNode.{away-none, tick-good, delay-good}
+use Rattle.in_step.proofs.Moment.{due-turn, all-short, gathered}
+use Rattle.in_step.proofs.Message.{AboutHere, about-here, sender-good, hearer-good}
 use Rattle.in_step.proofs.Phases.{lead-own, lead-other, end-to-start, due-of}
 
 module _ (P : Plan) (S : Sound P) (A : RulesHold P) where
-  -- the turn that is next, in any state
-  pub next-turn : (r : Run) (y : ℕ) (v : Inv P r y) → Turn P (phaseOf P (r .last)) y (due-of P S A (r .last) (v .sent) .next .by) (phaseOf P (r .last) .D)
-  next-turn r y v =
+  -- in any state no node's count is at the last tick of slot D: some node's turn there is next
+  pub short-of : (r : Run) (y : ℕ) → Inv P r y → (i : ℕ) → i < P .nodes .0 → node r i .pending ≡ false → Short P (phaseOf P (r .last)) (phaseOf P (r .last) .D) (node r i)
+  short-of r y v i h e =
+      let f = phaseOf P (r .last) in
       let due = due-of P S A (r .last) (v .sent) in
       let n = due .next in
-      due-turn P S (phaseOf P (r .last)) (due .holds) y (n .by) (node r (n .by)) (n .below) (n .away) (v .good (n .by) (n .below))
+      let turn = due-turn P S f (due .holds) y (n .by) (node r (n .by)) (n .below) (n .away) (v .good (n .by) (n .below)) in
+      all-short P S f (due .holds) y i (n .by) (node r i) h turn (v .good i h) e
 
   -- one node replaced by a good one
-  inv-at : (r r′ : Run) (y i : ℕ) → length (r′ .nodes) ≡ length (r .nodes) → r′ .last ≡ r .last → ((j : ℕ) → j ≢ i → node r′ j ≡ node r j)
+  pub inv-at : (r r′ : Run) (y i : ℕ) → length (r′ .nodes) ≡ length (r .nodes) → r′ .last ≡ r .last → ((j : ℕ) → j ≢ i → node r′ j ≡ node r j)
       → Good P (phaseOf P (r .last)) y (own P i) (node r′ i) → Inv P r y → Inv P r′ y
   inv-at r r′ y i room last still g v = record { room = rw room (v .room); sent = rw last (v .sent); good = λ j h. rw last (good j h (ℕ-discrete j i)) }
     where
@@ -47,20 +48,15 @@ module _ (P : Plan) (S : Sound P) (A : RulesHold P) where
       good j h (yes e) = rw e g
       good j h (no n) = rw (still j n) (v .good j h)
 
-  inv-tick : (r : Run) (y i : ℕ) → Inv P r y → TickLegal P r i → Inv P (ticked P i r) y
+  pub inv-tick : (r : Run) (y i : ℕ) → Inv P r y → TickLegal P r i → Inv P (ticked P i r) y
   inv-tick r y i v l =
-      let f = phaseOf P (r .last) in
-      let due = due-of P S A (r .last) (v .sent) in
-      let a = node r i in
-      let g = v .good i (l .below) in
-      let cap : a .pending ≡ false → ticksFrom P (f .p) (a .clock .0) (a .slot .0) + 1 < f .D * P .ticks .0 + P .ticks .0 =
-      λ e. all-short P S f (due .holds) y i (due .next .by) (a .clock .0) (a .slot .0) (a .time .0) (a .mode) (l .below) (next-turn r y v) (rw e at (g .here)) in
+      let H = due-of P S A (r .last) (v .sent) .holds in
+      let good = tick-good P S (phaseOf P (r .last)) H y (own P i) (own-in-frame P S i (l .below)) (node r i) (l .ripe) (short-of r y v i (l .below)) (v .good i (l .below)) in
       inv-at r (ticked P i r) y i (room-moved P r (TickOf (record { 0 = i }))) refl (λ j n. node-still P r i j n)
-      (rw (node-ticked P r i (omega (arith, l .below, v .room)))
-      (tick-good P S f (due .holds) y (own P i) (own-in-frame P S i (l .below)) (a .clock .0) (a .slot .0) (a .time .0) (a .mode) (a .pending) (l .ripe) cap g))
+      (rw (node-ticked P r i (omega (arith, l .below, v .room))) good)
       v
 
-  inv-delay : (r : Run) (y d : ℕ) → Inv P r y → DelayLegal P r d → Inv P (delayed P d r) (y + d)
+  pub inv-delay : (r : Run) (y d : ℕ) → Inv P r y → DelayLegal P r d → Inv P (delayed P d r) (y + d)
   inv-delay r y d v l =
       record {
         room = rw (room-moved P r (Delay (record { 0 = d }))) (v .room);
@@ -71,16 +67,19 @@ module _ (P : Plan) (S : Sound P) (A : RulesHold P) where
             (delay-good P (phaseOf P (r .last)) y (own P i) d (node r i) (l .none-about i h) (l .within i h) (v .good i h));
       }
 
-  inv-send : (r : Run) (y i : ℕ) → Inv P r y → SendLegal P r i → Inv P (sent P i r) 0
+  pub inv-send : (r : Run) (y i : ℕ) → Inv P r y → SendLegal P r i → Inv P (sent P i r) 0
   inv-send r y i v l =
       record {
         room = rw (room-moved P r (SendOf (record { 0 = i }))) (v .room);
-        sent = record { by = i; below = l .below; slot = sym (here .about .place) };
+        sent = record { by = i; below = l .below; slot = sym place };
         good = λ j h. good j h (ℕ-discrete j i);
       }
     where
       f : Phase
       f = phaseOf P (r .last)
+
+      f′ : Phase
+      f′ = phaseOf P (At (node r i .slot))
 
       H : Holds P f
       H = due-of P S A (r .last) (v .sent) .holds
@@ -88,24 +87,25 @@ module _ (P : Plan) (S : Sound P) (A : RulesHold P) where
       hw : own P i < P .frame .0
       hw = own-in-frame P S i (l .below)
 
-      here : AboutHere P f y (own P i) (node r i .clock .0) (node r i .slot .0) (node r i .time .0) (node r i .pending)
-      here = about-here P f y (own P i) (node r i .clock .0) (node r i .slot .0) (node r i .time .0) (node r i .mode) (node r i .pending) (l .about) (v .good i (l .below) .here)
+      here : AboutHere P f y (own P i) (node r i)
+      here = about-here P f y (own P i) (node r i) (l .about) (v .good i (l .below))
+
+      place : node r i .slot .0 ≡ own P i
+      place = here .about .place
 
       ahead : own P i ≢ f .p
-      ahead e =
-          let none : distance (P .frame .0) (f .p) (own P i) ≡ 0 = rw e (distance-self (P .frame .0) (f .p) (H .start)) in
-          omega (arith, here .about .ahead)
+      ahead e = omega (arith, here .about .ahead, away-none P (f .p) (own P i) (H .start) e)
 
-      good : (j : ℕ) → j < P .nodes .0 → Dec (j ≡ i) → Good P (phaseOf P (At (node r i .slot))) 0 (own P j) (node (sent P i r) j)
+      good : (j : ℕ) → j < P .nodes .0 → Dec (j ≡ i) → Good P f′ 0 (own P j) (node (sent P i r) j)
       good j h (yes e) =
           rw (e, node-sender P r i (l .below) (omega (arith, l .below, v .room)))
-          (sender-good P S f (phaseOf P (At (node r i .slot))) y (own P i) hw (here .about .place) refl (node r i) (lead-own P (node r i .slot) (own P i) (sym (here .about .place))) here (v .good i (l .below)))
+          (sender-good P S f f′ y (own P i) hw place refl (node r i) (lead-own P (node r i .slot) (own P i) (sym place)) here (v .good i (l .below)))
       good j h (no n) =
-          let b = node r j in
           let apart : own P j ≢ own P i = λ e. n (S .own-apart j i h (l .below) e) in
-          let all = gathered P S f H y j i (node r i .clock .0) (node r i .slot .0) (node r i .time .0) (b .clock .0) (b .slot .0) (b .time .0) (b .mode) (b .pending) h (l .below) n hw (here .about) (v .good j h) in
+          let leads = lead-other P (node r i .slot) (own P j) (λ e. apart (e ∙ place)) in
+          let all = gathered P S f H y j i (node r i) (node r j) h (l .below) n hw (here .about) (v .good j h) in
           rw (node-hearing P r i j h (omega (arith, v .room)) n)
-          (hearer-good P S f (phaseOf P (At (node r i .slot))) y (own P i) hw (here .about .place) refl (own P j) (b .clock .0) (b .slot .0) (b .time .0) (b .mode) (b .pending) (lead-other P (node r i .slot) (own P j) (λ e. apart (e ∙ here .about .place))) apart (S .own-active i (l .below)) ahead all (v .good j h))
+          (hearer-good P S f f′ y (own P i) hw place refl (own P j) (node r j) leads apart (S .own-active i (l .below)) ahead all (v .good j h))
 
   pub inv-fresh : Inv P freshRun 0
   unfolding freshRun

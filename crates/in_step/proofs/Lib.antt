@@ -2,6 +2,7 @@ pub mod Numbers
 pub mod Invariant
 pub mod OneNode
 pub mod Moment
+pub mod Message
 pub mod Phases
 pub mod Kept
 pub mod Counts

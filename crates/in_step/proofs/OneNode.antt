@@ -14,55 +14,54 @@ use Rattle.run.specs.declared.Mode.{Mode}
 use Rattle.run.specs.declared.Mode.the-variants.{Waiting, AboutToSend, Sending}
 use Rattle.run.specs.declared.NodeState.{NodeState}
 use Rattle.run.specs.State.{isAbout}
-use Rattle.run.specs.Moves.{nodeTicked, nodeDelayed}
+use Rattle.run.specs.Moves.{clockAfter, slotAfter, modeAfter, nodeTicked, nodeDelayed}
 use Rattle.run.specs.Reckoning.{ticksFrom}
 use Rattle.run.proofs.Outcomes.{clock-heard, clock-on, clock-round, mode-turns, mode-elsewhere, mode-waits, mode-ends, mode-sends, slot-moves, slot-stays, slot-sending}
 use Rattle.in_step.proofs.Numbers.{live-tick, live-heard, live-delay, same-slot, slot-within, slots-some}
-use Rattle.in_step.proofs.Invariant.{Phase, Knows, Heard, Waits, Abouts, Sends, Case, Good, Holds}
+use Rattle.in_step.proofs.Invariant.{Phase, Knows, Heard, Waits, Abouts, Sends, Case, KnowsOf, CaseOf, Good, Short, Holds}
 
 -- The state of a node, from its parts.
 abbrev pub stateOf : (c s x : ℕ) → Mode → Bool → NodeState
 stateOf c s x m b = record { clock = record { 0 = c }; slot = record { 0 = s }; time = record { 0 = x }; mode = m; pending = b }
 
 -- every node that is not pending counts
-pub knows-of : (P : Plan) (f : Phase) (y w c s x : ℕ) (m : Mode) → Case P f y w c s x m false → Knows P f y w c s x
-knows-of P f y w c s x Waiting q = q .live
-knows-of P f y w c s x AboutToSend q = q .live
-knows-of P f y w c s x Sending q = q .live
+pub knows-of : (P : Plan) (f : Phase) (y w : ℕ) (a : NodeState) (m : Mode) → CaseOf P f y w a m false → KnowsOf P f y w a
+knows-of P f y w a Waiting v = v .live
+knows-of P f y w a AboutToSend v = v .live
+knows-of P f y w a Sending v = v .live
 
--- in slot p a node's ticks since the beginning of p are its clock
+-- from p to p there is no slot to count, so a node's ticks there are its clock
+pub away-none : (P : Plan) (p s : ℕ) → p < P .frame .0 → s ≡ p → distance (P .frame .0) p s ≡ 0
+away-none P p s h e = rw e (distance-self (P .frame .0) p h)
+
 pub ticks-here : (P : Plan) (p c s : ℕ) → p < P .frame .0 → s ≡ p → ticksFrom P p c s ≡ c
-ticks-here P p c s h e = rw (e, distance-self (P .frame .0) p h) (omega arith)
+ticks-here P p c s h e = rw (away-none P p s h e) (omega arith)
 
 -- the turn of the sender of p is not next
 pub not-next : (P : Plan) (f : Phase) → Holds P f → (w : ℕ) → w ≡ f .p → distance (P .frame .0) (f .p) w ≢ f .D
-not-next P f H w e q =
-    let none : distance (P .frame .0) (f .p) w ≡ 0 = rw e (distance-self (P .frame .0) (f .p) (H .start)) in
-    omega (arith, H .one)
+not-next P f H w e q = omega (arith, away-none P (f .p) w (H .start) e, H .one)
 
 module _ (P : Plan) (S : Sound P) (f : Phase) (H : Holds P f) (y w : ℕ) (hw : w < P .frame .0) where
+  -- a node after a tick, by the outcomes of its clock, slot and mode
+  pub ticked-good : (c s x : ℕ) (m : Mode) (b : Bool) {c′ s′ : ℕ} {m′ : Mode} → clockAfter P b c ≡ c′ → slotAfter P c s m ≡ s′ → modeAfter P w c s m ≡ m′ → c′ < P .ticks .0 → s′ < P .frame .0
+      → Case P f y w c′ s′ 0 m′ false → Good P f y w (nodeTicked P w (stateOf c s x m b))
+  ticked-good c s x m b clock slot mode hc hs h = rw (clock, slot, mode) (record { clock-low = hc; slot-low = hs; time-low = omega arith; here = h })
+
   -- a tick on a pending message: the clock is set to g + 1, one tick after the message
   tick-heard : (c s x : ℕ) → s < P .frame .0 → x ≤ P .max .0 → Heard P f y w c s x → Good P f y w (nodeTicked P w (stateOf c s x Waiting true))
   tick-heard c s x hs hx q =
-      let elsewhere : s ≢ w = λ e. q .other (sym e ∙ q .place) in
       let stays = slot-stays P c s (omega (arith, q .early)) in
-      let waits = mode-elsewhere P w c s elsewhere in
+      let waits = mode-elsewhere P w c s (λ e. q .other (sym e ∙ q .place)) in
       let u = ticks-here P (f .p) (P .guard .0 + 1) s (H .start) (q .place) in
-      let k = slots-some (f .D) (P .ticks .0) (H .one) in
-      rw (clock-heard P c, stays, waits)
+      let some = slots-some (f .D) (P .ticks .0) (H .one) in
+      ticked-good c s x Waiting true (clock-heard P c) stays waits (omega (arith, S .guard-tail)) hs
       (record {
-        clock-low = omega (arith, S .guard-tail);
-        slot-low = hs;
-        time-low = omega arith;
-        here =
-            record {
-              live = live-heard (q .leads) (u ∙ ap (λ (n : ℕ). n + 1) (sym (q .message))) (q .time) hx;
-              before = λ e. omega (arith, S .ticks-low);
-            };
+        live = live-heard (q .leads) (u ∙ ap (λ (n : ℕ). n + 1) (sym (q .message))) (q .time) hx;
+        before = λ e. omega (arith, S .ticks-low);
       })
 
   -- the node's turn comes with the tick that counts to D slots and g ticks
-  due-now : (c s : ℕ) → c < P .ticks .0 → s < P .frame .0 → distance (P .frame .0) (f .p) w ≡ f .D → ticksFrom P (f .p) c s + 1 ≡ f .D * P .ticks .0 + P .guard .0
+  pub due-now : (c s : ℕ) → c < P .ticks .0 → s < P .frame .0 → distance (P .frame .0) (f .p) w ≡ f .D → ticksFrom P (f .p) c s + 1 ≡ f .D * P .ticks .0 + P .guard .0
       → (s ≡ w) × (c + 1 ≡ P .guard .0)
   due-now c s hc hs e q =
       let d = distance (P .frame .0) (f .p) s in
@@ -73,7 +72,7 @@ module _ (P : Plan) (S : Sound P) (f : Phase) (H : Holds P f) (y w : ℕ) (hw : 
       (distance-same (P .frame .0) (f .p) s w (H .start) hs hw (same ∙ sym e), omega arith)
 
   -- a counted tick that stays waiting
-  waits-on : (c s x c′ s′ : ℕ) → P .min .0 ≤ x → x ≤ P .max .0 → Waits P f y w c s x → ticksFrom P (f .p) c′ s′ ≡ ticksFrom P (f .p) c s + 1
+  pub waits-on : (c s x c′ s′ : ℕ) → P .min .0 ≤ x → x ≤ P .max .0 → Waits P f y w c s x → ticksFrom P (f .p) c′ s′ ≡ ticksFrom P (f .p) c s + 1
       → (distance (P .frame .0) (f .p) w ≡ f .D → ticksFrom P (f .p) c s + 1 ≢ f .D * P .ticks .0 + P .guard .0) → Waits P f y w c′ s′ 0
   waits-on c s x c′ s′ hn hx q e n =
       record {
@@ -82,9 +81,9 @@ module _ (P : Plan) (S : Sound P) (f : Phase) (H : Holds P f) (y w : ℕ) (hw : 
       }
 
   -- a tick that makes the node about to send: its slot lies ahead of p, and no farther than D
-  turns-about : (c s x : ℕ) → P .min .0 ≤ x → x ≤ P .max .0 → Waits P f y w c s x → ticksFrom P (f .p) c s + 1 < f .D * P .ticks .0 + P .ticks .0 → s ≡ w → c + 1 ≡ P .guard .0
+  pub turns-about : (c s x : ℕ) → P .min .0 ≤ x → x ≤ P .max .0 → Waits P f y w c s x → ticksFrom P (f .p) c s + 1 < f .D * P .ticks .0 + P .ticks .0 → s ≡ w → c + 1 ≡ P .guard .0
       → Abouts P f y w (c + 1) s 0
-  turns-about c s x hn hx q cap e t =
+  turns-about c s x hn hx q short e t =
       let d = distance (P .frame .0) (f .p) in
       record {
         live = let u : ticksFrom P (f .p) (c + 1) s ≡ ticksFrom P (f .p) c s + 1 = omega arith in rw u (live-tick hn hx (q .live));
@@ -103,13 +102,16 @@ module _ (P : Plan) (S : Sound P) (f : Phase) (H : Holds P f) (y w : ℕ) (hw : 
 
   tick-waits : (c s x : ℕ) → c < P .ticks .0 → s < P .frame .0 → x ≤ P .max .0 → P .min .0 ≤ x → ticksFrom P (f .p) c s + 1 < f .D * P .ticks .0 + P .ticks .0
       → Waits P f y w c s x → Good P f y w (nodeTicked P w (stateOf c s x Waiting false))
-  tick-waits c s x hc hs hx hn cap q = go (ℕ-discrete (c + 1) (P .ticks .0)) (ℕ-discrete s w) (ℕ-discrete (c + 1) (P .guard .0))
+  tick-waits c s x hc hs hx hn short q = go (ℕ-discrete (c + 1) (P .ticks .0)) (ℕ-discrete s w) (ℕ-discrete (c + 1) (P .guard .0))
     where
       d : ℕ
       d = distance (P .frame .0) (f .p) s
 
-      stays : (s ≡ w → c + 1 ≢ P .guard .0) → Waits P f y w (c + 1) s 0
-      stays n = waits-on c s x (c + 1) s hn hx q (omega arith) (λ a b. let o = due-now c s hc hs a b in n (o .0) (o .1))
+      waits : (s ≡ w → c + 1 ≢ P .guard .0) → Waits P f y w (c + 1) s 0
+      waits n = waits-on c s x (c + 1) s hn hx q (omega arith) (λ a b. let o = due-now c s hc hs a b in n (o .0) (o .1))
+
+      within : c + 1 ≢ P .ticks .0 → {m : Mode} → modeAfter P w c s Waiting ≡ m → Case P f y w (c + 1) s 0 m false → Good P f y w (nodeTicked P w (stateOf c s x Waiting false))
+      within r mode h = ticked-good c s x Waiting false (clock-on P c (omega (arith, r))) (slot-stays P c s r) mode (omega arith) hs h
 
       go : Dec (c + 1 ≡ P .ticks .0) → Dec (s ≡ w) → Dec (c + 1 ≡ P .guard .0) → Good P f y w (nodeTicked P w (stateOf c s x Waiting false))
       go (yes r) a b =
@@ -117,68 +119,47 @@ module _ (P : Plan) (S : Sound P) (f : Phase) (H : Holds P f) (y w : ℕ) (hw : 
           let far : d + 1 ≤ f .D = slot-within (d + 1) (f .D) (P .ticks .0) 0 (omega arith) in
           let next = distance-next (P .frame .0) (f .p) s (H .start) hs (omega (arith, far, H .gap)) in
           let u : (d + 1) * P .ticks .0 + 0 ≡ d * P .ticks .0 + c + 1 = omega arith in
-          rw (clock-round P c r, slot-moves P c s r, mode-waits P w c s g)
-          (record {
-            clock-low = omega arith;
-            slot-low = next-below (P .frame .0) s (omega arith);
-            time-low = omega arith;
-            here = waits-on c s x 0 ((s + 1) % P .frame .0) hn hx q (rw next u) (λ a b. g (due-now c s hc hs a b .1));
-          })
-      go (no r) (yes e) (yes t) =
-          rw (clock-on P c (omega (arith, r)), slot-stays P c s r, mode-turns P w c s e t)
-          (record { clock-low = omega arith; slot-low = hs; time-low = omega arith; here = turns-about c s x hn hx q cap e t })
-      go (no r) (yes e) (no t) =
-          rw (clock-on P c (omega (arith, r)), slot-stays P c s r, mode-waits P w c s t)
-          (record { clock-low = omega arith; slot-low = hs; time-low = omega arith; here = stays (λ a. t) })
-      go (no r) (no n) b =
-          rw (clock-on P c (omega (arith, r)), slot-stays P c s r, mode-elsewhere P w c s n)
-          (record { clock-low = omega arith; slot-low = hs; time-low = omega arith; here = stays (λ a. absurd (n a)) })
+          ticked-good c s x Waiting false (clock-round P c r) (slot-moves P c s r) (mode-waits P w c s g) (omega arith) (next-below (P .frame .0) s (omega arith))
+          (waits-on c s x 0 ((s + 1) % P .frame .0) hn hx q (rw next u) (λ a b. g (due-now c s hc hs a b .1)))
+      go (no r) (yes e) (yes t) = within r (mode-turns P w c s e t) (turns-about c s x hn hx q short e t)
+      go (no r) (yes e) (no t) = within r (mode-waits P w c s t) (waits (λ a. t))
+      go (no r) (no n) b = within r (mode-elsewhere P w c s n) (waits (λ a. absurd (n a)))
 
-  tick-sends : (c s x : ℕ) → c < P .ticks .0 → s < P .frame .0 → x ≤ P .max .0 → P .min .0 ≤ x → Sends P f y w c s x
-      → Good P f y w (nodeTicked P w (stateOf c s x Sending false))
-  tick-sends c s x hc hs hx hn q = go (ℕ-discrete (c + P .tail .0 + 1) (P .ticks .0))
+  tick-sends : (c s x : ℕ) → s < P .frame .0 → x ≤ P .max .0 → P .min .0 ≤ x → Sends P f y w c s x → Good P f y w (nodeTicked P w (stateOf c s x Sending false))
+  tick-sends c s x hs hx hn q = go (ℕ-discrete (c + P .tail .0 + 1) (P .ticks .0))
     where
-      on : c + 1 < P .ticks .0
-      on = omega (arith, q .high, S .tail-low)
-
       live : Knows P f y w (c + 1) s 0
       live = let u : ticksFrom P (f .p) (c + 1) s ≡ ticksFrom P (f .p) c s + 1 = omega arith in rw u (live-tick hn hx (q .live))
 
+      within : {m : Mode} → modeAfter P w c s Sending ≡ m → Case P f y w (c + 1) s 0 m false → Good P f y w (nodeTicked P w (stateOf c s x Sending false))
+      within mode h =
+          let on : c + 1 < P .ticks .0 = omega (arith, q .high, S .tail-low) in
+          ticked-good c s x Sending false (clock-on P c on) (slot-sending P c s) mode on hs h
+
       go : Dec (c + P .tail .0 + 1 ≡ P .ticks .0) → Good P f y w (nodeTicked P w (stateOf c s x Sending false))
-      go (yes e) =
-          rw (clock-on P c on, slot-sending P c s, mode-ends P w c s e)
-          (record {
-            clock-low = on;
-            slot-low = hs;
-            time-low = omega arith;
-            here = record { live = live; before = λ a. absurd (not-next P f H w (q .mine) a) };
-          })
+      go (yes e) = within (mode-ends P w c s e) (record { live = live; before = λ a. absurd (not-next P f H w (q .mine) a) })
       go (no n) =
-          rw (clock-on P c on, slot-sending P c s, mode-sends P w c s n)
+          within (mode-sends P w c s n)
           (record {
-            clock-low = on;
-            slot-low = hs;
-            time-low = omega arith;
-            here =
-                record {
-                  live = live;
-                  message = q .message;
-                  mine = q .mine;
-                  place = q .place;
-                  low = omega (arith, q .low);
-                  high = omega (arith, q .high);
-                };
+            live = live;
+            message = q .message;
+            mine = q .mine;
+            place = q .place;
+            low = omega (arith, q .low);
+            high = omega (arith, q .high);
           })
 
-  -- a tick keeps a node good, unless it carries the node's count to the end of slot D
-  pub tick-good : (c s x : ℕ) (m : Mode) (b : Bool) → P .min .0 ≤ x → (b ≡ false → ticksFrom P (f .p) c s + 1 < f .D * P .ticks .0 + P .ticks .0)
-      → Good P f y w (stateOf c s x m b) → Good P f y w (nodeTicked P w (stateOf c s x m b))
-  tick-good c s x Waiting true h cap q = tick-heard c s x (q .slot-low) (q .time-low) (q .here)
-  tick-good c s x Waiting false h cap q = tick-waits c s x (q .clock-low) (q .slot-low) (q .time-low) h (cap refl) (q .here)
-  tick-good c s x AboutToSend true h cap q = absurd (q .here)
-  tick-good c s x AboutToSend false h cap q = absurd (omega (arith, q .here .zero, S .min-low))
-  tick-good c s x Sending true h cap q = absurd (q .here)
-  tick-good c s x Sending false h cap q = tick-sends c s x (q .clock-low) (q .slot-low) (q .time-low) h (q .here)
+  -- a tick keeps a node good, where it does not carry its count past slot D
+  pub tick-good : (a : NodeState) → P .min .0 ≤ a .time .0 → (a .pending ≡ false → Short P f (f .D) a) → Good P f y w a → Good P f y w (nodeTicked P w a)
+  tick-good a h short q = go (a .mode) (a .pending) short (q .here)
+    where
+      go : (m : Mode) (b : Bool) → (b ≡ false → Short P f (f .D) a) → CaseOf P f y w a m b → Good P f y w (nodeTicked P w (stateOf (a .clock .0) (a .slot .0) (a .time .0) m b))
+      go Waiting true short v = tick-heard (a .clock .0) (a .slot .0) (a .time .0) (q .slot-low) (q .time-low) v
+      go Waiting false short v = tick-waits (a .clock .0) (a .slot .0) (a .time .0) (q .clock-low) (q .slot-low) (q .time-low) h (short refl) v
+      go AboutToSend true short v = absurd v
+      go AboutToSend false short v = absurd (omega (arith, v .zero, S .min-low))
+      go Sending true short v = absurd v
+      go Sending false short v = tick-sends (a .clock .0) (a .slot .0) (a .time .0) (q .slot-low) (q .time-low) h v
 
 -- so does a delay, of a node that is not about to send
 module _ (P : Plan) (f : Phase) (y w d : ℕ) where

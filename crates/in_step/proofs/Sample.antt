@@ -9,6 +9,7 @@ use Rattle.laws.specs.Over.{over}
 use Rattle.laws.specs.Ring.{distance}
 use Rattle.laws.proofs.Bools.{clash, and-true-left, and-true-right}
 use Rattle.plan.specs.declared.Plan.{Plan}
+use Rattle.plan.specs.Numbers.{planBy, slotsFrom}
 use Rattle.plan.specs.Sending.{sends}
 use Rattle.plan.specs.Tested.{activeOutside, guardOrTailWrong, minOrMaxWrong, someNotActive, sharesSlot, someShared, planNumber}
 use Rattle.gap.specs.Gap.{nearest, predecessor, gapAt, gapOf}
@@ -30,18 +31,7 @@ use Rattle.in_step.proofs.Stays.{stays-in-step}
 
 -- N = 3, C = 6, n = 4, k0 = 10, g = t = 2, 39/40, slots 0, 1, 2
 pub sample : Plan
-sample =
-    record {
-      nodes = record { 0 = 3 };
-      frame = record { 0 = 6 };
-      active = record { 0 = 4 };
-      ticks = record { 0 = 10 };
-      guard = record { 0 = 2 };
-      tail = record { 0 = 2 };
-      min = record { 0 = 39 };
-      max = record { 0 = 40 };
-      slots = record { 0 = 0 } ∷ record { 0 = 1 } ∷ record { 0 = 2 } ∷ [];
-    }
+sample = planBy 3 6 4 10 2 2 39 40 (slotsFrom 0 3)
 
 pub let-through : planNumber sample ≡ 0
 unfolding sample firstOf anyBelow sends activeOutside guardOrTailWrong minOrMaxWrong someNotActive sharesSlot someShared planNumber

@@ -20,39 +20,39 @@ use Rattle.run.specs.declared.Mode.{Mode}
 use Rattle.run.specs.declared.Mode.the-variants.{Waiting, AboutToSend, Sending}
 use Rattle.run.specs.declared.Last.{Last}
 use Rattle.run.specs.declared.Last.the-variants.{At, Nothing}
+use Rattle.run.specs.declared.NodeState.{NodeState}
 use Rattle.run.specs.declared.Run.{Run}
 use Rattle.run.specs.declared.Reckoned.the-variants.{Ticks}
 use Rattle.run.specs.State.{node, freshRun, isSending, inRange, nodeInRange, lastInRange, elsewhere, sendsApart, outOfStep}
 use Rattle.run.specs.Steps.{runAfter}
 use Rattle.run.specs.Reckoning.{timeSince, reckoning, belowZero, reckoningNumber, reckonedTested, reckonedOf}
 use Rattle.in_step.specs.InStep.{Reckons, StaysInStep}
-use Rattle.in_step.proofs.Invariant.{Phase, phaseOf, Sends, Case, Sent, Inv}
-use Rattle.in_step.proofs.Moment.{all-short, all-here}
+use Rattle.in_step.proofs.Invariant.{Phase, phaseOf, SendsOf, CaseOf, Good, Sent, Inv}
+use Rattle.in_step.proofs.Moment.{all-here}
 use Rattle.in_step.proofs.Phases.{due-of}
-use Rattle.in_step.proofs.Kept.{next-turn, inv-fresh, inv-steps}
+use Rattle.in_step.proofs.Kept.{short-of, inv-fresh, inv-steps}
 use Rattle.in_step.proofs.Counts.{Counts, counts-of}
 
 -- a node that is sending, from its mode
-sends-here : (P : Plan) (f : Phase) (y w c s x : ℕ) (m : Mode) (b : Bool) → isSending m ≡ true → Case P f y w c s x m b → Sends P f y w c s x
-sends-here P f y w c s x Waiting b e q = clash false e refl
-sends-here P f y w c s x AboutToSend b e q = clash false e refl
-sends-here P f y w c s x Sending true e q = absurd q
-sends-here P f y w c s x Sending false e q = q
+sends-here : (P : Plan) (f : Phase) (y w : ℕ) (a : NodeState) → isSending (a .mode) ≡ true → Good P f y w a → SendsOf P f y w a
+sends-here P f y w a e q = go (a .mode) (a .pending) e (q .here)
+  where
+    go : (m : Mode) (b : Bool) → isSending m ≡ true → CaseOf P f y w a m b → SendsOf P f y w a
+    go Waiting b e v = clash false e refl
+    go AboutToSend b e v = clash false e refl
+    go Sending true e v = absurd v
+    go Sending false e v = v
 
 module _ (P : Plan) (S : Sound P) (A : RulesHold P) (r : Run) (y : ℕ) (v : Inv P r y) where
   -- while a node sends every node is in its slot
-  together : (i j : ℕ) → i < P .nodes .0 → j < P .nodes .0 → isSending (node r i .mode) ≡ true → node r j .slot .0 ≡ node r i .slot .0
+  pub together : (i j : ℕ) → i < P .nodes .0 → j < P .nodes .0 → isSending (node r i .mode) ≡ true → node r j .slot .0 ≡ node r i .slot .0
   together i j hi hj e =
       let f = phaseOf P (r .last) in
       let H = due-of P S A (r .last) (v .sent) .holds in
-      let a = node r i in
-      let b = node r j in
-      let q = v .good i hi in
-      let sends = sends-here P f y (own P i) (a .clock .0) (a .slot .0) (a .time .0) (a .mode) (a .pending) e (q .here) in
-      all-here P S f H y (own P i) (a .clock .0) (a .slot .0) (a .time .0) (own P j) (b .clock .0) (b .slot .0) (b .time .0) (b .mode) (b .pending) (q .time-low) sends (v .good j hj)
-      ∙ sym (sends .place)
+      let sends = sends-here P f y (own P i) (node r i) e (v .good i hi) in
+      all-here P S f H y (own P i) (own P j) (node r i) (node r j) (v .good i hi .time-low) sends (v .good j hj) ∙ sym (sends .place)
 
-  never-11 : outOfStep P r ≡ false
+  pub never-11 : outOfStep P r ≡ false
   unfolding outOfStep sendsApart
   never-11 = any-never (P .nodes .0) (sendsApart P r) (λ i h. go i h (isSending (node r i .mode)) refl)
     where
@@ -60,35 +60,34 @@ module _ (P : Plan) (S : Sound P) (A : RulesHold P) (r : Run) (y : ℕ) (v : Inv
       go i h true e = rw e (any-never (P .nodes .0) (elsewhere r i) (λ j l. rw (eq-eqb (node r j .slot .0) (node r i .slot .0) (together i j h l e))))
       go i h false e = rw e
 
-  in-range : inRange P r ≡ true
+  pub in-range : inRange P r ≡ true
   unfolding inRange
   in-range =
       and-both (allBelow (P .nodes .0) (λ i. nodeInRange P (node r i))) (lastInRange P (r .last))
-      (all-ever (P .nodes .0) (λ i. nodeInRange P (node r i)) (λ i h. rw (lt-ltb (node r i .clock .0) (P .ticks .0) (v .good i h .clock-low), lt-ltb (node r i .slot .0) (P .frame .0) (v .good i h .slot-low), le-leb (node r i .time .0) (P .max .0) (v .good i h .time-low))))
+      (all-ever (P .nodes .0) (λ i. nodeInRange P (node r i)) (λ i h. node-in (node r i) (v .good i h)))
       (last-in (r .last) (v .sent))
     where
+      node-in : {f : Phase} {w : ℕ} (a : NodeState) → Good P f y w a → nodeInRange P a ≡ true
+      node-in a q =
+          let clock = lt-ltb (a .clock .0) (P .ticks .0) (q .clock-low) in
+          let slot = lt-ltb (a .slot .0) (P .frame .0) (q .slot-low) in
+          rw (clock, slot, le-leb (a .time .0) (P .max .0) (q .time-low))
+
       last-in : (l : Last) → Sent P l → lastInRange P l ≡ true
       last-in (At q) h = lt-ltb (q .0) (P .frame .0) (rw (h .slot) at (own-in-frame P S (h .by) (h .below)))
       last-in Nothing h = refl
 
-  counts : (i : ℕ) → i < P .nodes .0 → Counts P (r .last) y (node r i)
-  counts i h =
-      let f = phaseOf P (r .last) in
-      let due = due-of P S A (r .last) (v .sent) in
-      let a = node r i in
-      let g = v .good i h in
-      counts-of P S A y (own P i) (a .clock .0) (a .slot .0) (a .time .0) (a .mode) (r .last) (v .sent) (a .pending)
-      (λ e. all-short P S f (due .holds) y i (due .next .by) (a .clock .0) (a .slot .0) (a .time .0) (a .mode) h (next-turn P S A r y v) (rw e at (g .here)))
-      g
+  pub counts : (i : ℕ) → i < P .nodes .0 → Counts P (r .last) y (node r i)
+  counts i h = counts-of P S A y (own P i) (node r i) (r .last) (v .sent) (short-of P S A r y v i h) (v .good i h)
 
-  answered : planNumber P ≡ 0 → (i : ℕ) → i < P .nodes .0 → reckonedOf P r i ≡ Ticks (reckoning P (r .last) (node r i))
+  pub answered : planNumber P ≡ 0 → (i : ℕ) → i < P .nodes .0 → reckonedOf P r i ≡ Ticks (reckoning P (r .last) (node r i))
   unfolding reckonedOf reckonedTested reckoningNumber
   answered e i h =
       let rows = off-all (given run-outside (not (inRange P r)) ∷ given node-unknown (leb (P .nodes .0) i) ∷ given reckoning-below-0 (belowZero P (r .last) (node r i)) ∷ [])
       (ap not in-range, (lt-leb (P .nodes .0) i h, (counts i h .whole, tt))) in
       rw (eq-eqb (planNumber P) 0 e, eq-eqb (reckoningNumber P r i) 0 rows)
 
-  reckons : planNumber P ≡ 0 → (i : ℕ) → i < P .nodes .0 → Reckons P r y i
+  pub reckons : planNumber P ≡ 0 → (i : ℕ) → i < P .nodes .0 → Reckons P r y i
   reckons e i h =
       let n = counts i h in
       record { c = reckoning P (r .last) (node r i); answered = answered e i h; most = n .most; least = n .least }

@@ -177,6 +177,12 @@ largest-within (suc n) f b h =
     let w : f n ≤ b = h n (omega arith) in
     omega arith
 
+-- equal values, equal largest
+pub largest-same : (n : ℕ) (f g : ℕ → ℕ) → ((i : ℕ) → i < n → f i ≡ g i) → largestBelow n f ≡ largestBelow n g
+unfolding largestBelow
+largest-same zero f g h = refl
+largest-same (suc n) f g h = rw (largest-same n f g (λ i l. h i (omega arith)), h n (omega arith))
+
 -- a number at which the largest value stands
 pub record Reached (n : ℕ) (f : ℕ → ℕ) (v : ℕ) : Type 0 where
   pub at : ℕ

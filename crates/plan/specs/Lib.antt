@@ -1,3 +1,4 @@
+pub mod Numbers
 pub mod Refusals
 pub mod Sending
 pub mod Tested

@@ -1,5 +1,13 @@
 // The three rules and the verdict.
+use plan::Plan;
 use plan::Slot;
+use plan::Time;
+ghost use mathlib.Core.Path.{_≡_};
+ghost use Prim.Native.Nat.{_*_, _≤_, _<_};
+ghost use Rattle.plan.specs.Tested.{planNumber, Sound};
+ghost use Rattle.gap.specs.Gap.{gapOf};
+ghost use Rattle.rules.specs.declared.Rule.the-variants.{One, Two, Three};
+ghost use Rattle.rules.specs.Rules.{sidesAt, holds, outcomeBy, verdictOf, judgedOf};
 
 pub enum Rule {
     One,
@@ -31,4 +39,100 @@ pub struct Verdict {
 pub enum Judged {
     Gives(Verdict),
     Refused(u8),
+}
+
+// How long so many ticks take. Every side of a rule is such a product, of at most a frame's ticks.
+fn ticks_at(ticks: u64, time: Time) -> u64
+    requires { ⌜ (ticks ≤ 1044480) × (time .0 ≤ 2000000) ⌝ }
+    ensures { λ r. ⌜ r ≡ ticks * time .0 ⌝ }
+{
+    ticks * time.0 as u64
+}
+
+// The ticks of so many slots.
+fn slots_ticks(plan: Plan, slots: u64) -> u64
+    requires { ⌜ (slots ≤ 4096) × (1 ≤ slots) ⌝ }
+    ensures { λ r. ⌜ (r ≡ slots * plan .ticks .0) × (plan .ticks .0 ≤ r) × (r ≤ 1044480) ⌝ }
+{
+    slots * plan.ticks.0 as u64
+}
+
+fn sides_one(plan: Plan, gap: Slot) -> Sides
+    requires { ⌜ (Sound plan) × (1 ≤ gap .0) × (gap .0 < plan .frame .0) ⌝ }
+    ensures { λ r. ⌜ r ≡ sidesAt plan (gap .0) One ⌝ }
+{
+    let ticks = slots_ticks(plan, gap.0 as u64);
+    Sides {
+        left: ticks_at(ticks - plan.guard.0 as u64, plan.max),
+        right: ticks_at(ticks - 1, plan.min),
+    }
+}
+
+fn sides_two(plan: Plan, gap: Slot) -> Sides
+    requires { ⌜ (Sound plan) × (1 ≤ gap .0) × (gap .0 < plan .frame .0) ⌝ }
+    ensures { λ r. ⌜ r ≡ sidesAt plan (gap .0) Two ⌝ }
+{
+    let ticks = slots_ticks(plan, gap.0 as u64);
+    let more = slots_ticks(plan, gap.0 as u64 + 1);
+    Sides {
+        left: ticks_at(ticks, plan.max),
+        right: ticks_at(more - plan.guard.0 as u64 - 2, plan.min),
+    }
+}
+
+fn sides_three(plan: Plan, gap: Slot) -> Sides
+    requires { ⌜ Sound plan ⌝ }
+    ensures { λ r. ⌜ r ≡ sidesAt plan (gap .0) Three ⌝ }
+{
+    let ticks = plan.ticks.0 as u64;
+    let guard = plan.guard.0 as u64;
+    Sides {
+        left: ticks_at(ticks - guard - plan.tail.0 as u64, plan.max),
+        right: ticks_at(ticks - guard - 1, plan.min),
+    }
+}
+
+fn outcome_by(one: Sides, two: Sides, three: Sides) -> Outcome
+    ensures { λ r. ⌜ r ≡ outcomeBy one two three ⌝ }
+{
+    if one.right <= one.left {
+        return Outcome::Fails(Rule::One);
+    }
+    if two.right <= two.left {
+        return Outcome::Fails(Rule::Two);
+    }
+    if three.right <= three.left {
+        return Outcome::Fails(Rule::Three);
+    }
+    Outcome::Accepted
+}
+
+// The verdict of a tested plan with the gap M.
+pub fn verdict_tested(plan: Plan, gap: Slot) -> Verdict
+    requires { ⌜ (planNumber plan ≡ 0) × (gap .0 ≡ gapOf plan) ⌝ }
+    ensures { λ r. ⌜ r ≡ verdictOf plan ⌝ }
+{
+    let one = sides_one(plan, gap);
+    let two = sides_two(plan, gap);
+    let three = sides_three(plan, gap);
+    Verdict {
+        gap: gap,
+        one: one,
+        two: two,
+        three: three,
+        outcome: outcome_by(one, two, three),
+    }
+}
+
+// The judge: any plan to its verdict, or to the first of refusals 1 to 9 that speaks against it.
+pub fn judge(plan: Plan) -> Judged
+    ensures { λ r. ⌜ r ≡ judgedOf plan ⌝ }
+{
+    let number = plan::plan_number(plan);
+    if number != 0 {
+        return Judged::Refused(number);
+    }
+    let gaps = gap::gaps_tested(plan);
+    let gap = gap::widest_tested(plan, gaps);
+    Judged::Gives(verdict_tested(plan, gap))
 }

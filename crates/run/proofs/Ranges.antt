@@ -1,7 +1,7 @@
 -- A legal step keeps every number of the run in its range: what passed test 10 passes it again.
 use Prim.Native.Nat.{ℕ, _+_, _%_, _≤_, _<_}
-use mathlib.Core.Path.{_≡_, refl, sym, ap, _∙_}
-use mathlib.Core.Bool.{Bool, true, false, cond, _&&_}
+use mathlib.Core.Path.{_≡_, refl}
+use mathlib.Core.Bool.{Bool, true, false, _&&_}
 use native.Mathlib.Nat.{mod-lt}
 use native.Mathlib.Decide.{ℕ-discrete}
 use native.Mathlib.Omega.{arith}
@@ -12,8 +12,6 @@ use Rattle.laws.specs.Below.{allBelow}
 use Rattle.laws.proofs.Bools.{and-true-left, and-true-right, and-both, cond-by}
 use Rattle.laws.proofs.Belows.{all-at, all-ever}
 use Rattle.plan.specs.declared.Plan.{Plan}
-use Rattle.plan.specs.declared.Time.{Time}
-use Rattle.plan.specs.declared.Node.{Node}
 use Rattle.plan.specs.Sending.{own}
 use Rattle.plan.specs.Tested.{Sound}
 use Rattle.run.specs.declared.Mode.{Mode}
@@ -22,8 +20,8 @@ use Rattle.run.specs.declared.NodeState.{NodeState}
 use Rattle.run.specs.declared.Run.{Run}
 use Rattle.run.specs.declared.Step.{Step}
 use Rattle.run.specs.declared.Step.the-variants.{Delay, TickOf, SendOf}
-use Rattle.run.specs.State.{node, nodeInRange, lastInRange, inRange, freshNode, freshRun}
-use Rattle.run.specs.Moves.{clockAfter, slotAfter, nodeDelayed, nodeTicked, nodeSent, nodeHearing, moved}
+use Rattle.run.specs.State.{node, nodeInRange, lastInRange, inRange, freshRun}
+use Rattle.run.specs.Moves.{clockAfter, slotAfter, nodeTicked, moved}
 use Rattle.run.proofs.Nodes.{node-delayed, node-ticked, node-still, node-sender, node-hearing, node-fresh}
 use Rattle.run.proofs.Legal.{StepLegal}
 

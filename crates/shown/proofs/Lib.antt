@@ -1,1 +1,13 @@
 pub mod Worked
+pub mod Sums
+pub mod Play
+pub mod Progress
+pub mod Stands
+pub mod Roles
+pub mod Wall
+pub mod Tail
+pub mod Later
+pub mod Rounds
+pub mod Dawn
+pub mod Casting
+pub mod Why

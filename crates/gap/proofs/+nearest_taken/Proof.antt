@@ -1,0 +1,104 @@
+use mathlib.Core.Path.{_∙_}
+use borrow.Author.Tests.{eq-eqb, ne-eqb}
+use Rattle.gap.proofs.Table.{nearest-none, nearest-here, nearest-on}
+use borrow.Author.Needs.{needs}
+use Prim.Native.Nat.{ℕ, _<_}
+use borrow.Fn.Kinds.{In}
+use borrow.Fn.PlainCycle.{Measures, is, falls, and}
+use Rattle.gap.proofs.nearest_taken.Reads as nearest-taken
+use Rattle.gap.proofs.nearest_taken.Kinds as nearest-taken-kinds
+use Rattle.gap.proofs.+nearest_taken.Lts-nearest_taken as nearest-taken-lts
+use Rattle.gap.proofs.slot_before.Reads as slot-before-reads
+use Rattle.gap.proofs.+nearest_taken.{statement}
+use Rattle.gap.proofs.+nearest_taken.Tie.{close}
+
+abbrev μ-nearest-taken : Measures 1 nearest-taken-kinds.ps ℕ
+μ-nearest-taken κs a = a .1 .1 .0
+
+abbrev nearest-taken-at : ℕ → In 1 nearest-taken-kinds.ps
+nearest-taken-at t =
+    and 1 nearest-taken-kinds.ps (is 1 nearest-taken-kinds.ps μ-nearest-taken t) nearest-taken.Pre
+
+abbrev nearest-taken-below : ℕ → In 1 nearest-taken-kinds.ps
+nearest-taken-below t =
+    and
+    1
+    nearest-taken-kinds.ps
+    (falls 1 nearest-taken-kinds.ps _<_ μ-nearest-taken t)
+    nearest-taken.Pre
+
+nearest-taken-returns : (t : ℕ) → nearest-taken-lts.Need-returns (
+  slot-before-reads.Asked,
+  slot-before-reads.Learnt,
+  nearest-taken-below t,
+  nearest-taken.Post,
+) (nearest-taken-at t) nearest-taken.Post
+nearest-taken-returns t c = (nearest-none _ _ _ _ (c .if1 .taken), search needs)
+
+nearest-taken-shared-slice-read-if2 : (t : ℕ) → nearest-taken-lts.Need-shared-slice-read-if2 (
+  slot-before-reads.Asked,
+  slot-before-reads.Learnt,
+  nearest-taken-below t,
+  nearest-taken.Post,
+) (nearest-taken-at t) nearest-taken.Post
+nearest-taken-shared-slice-read-if2 t c = search needs
+
+nearest-taken-returns-2 : (t : ℕ) → nearest-taken-lts.Need-returns-2 (
+  slot-before-reads.Asked,
+  slot-before-reads.Learnt,
+  nearest-taken-below t,
+  nearest-taken.Post,
+) (nearest-taken-at t) nearest-taken.Post
+nearest-taken-returns-2 t c = (nearest-here _ _ _ _ (eq-eqb _ 1 (c .if2 .taken)), search needs)
+
+nearest-taken-slot-before-requires : (t : ℕ) → nearest-taken-lts.Need-slot-before-requires (
+  slot-before-reads.Asked,
+  slot-before-reads.Learnt,
+  nearest-taken-below t,
+  nearest-taken.Post,
+) (nearest-taken-at t) nearest-taken.Post
+nearest-taken-slot-before-requires t c κs = search needs
+
+nearest-taken-sub-nearest-taken : (t : ℕ) → nearest-taken-lts.Need-sub-nearest-taken (
+  slot-before-reads.Asked,
+  slot-before-reads.Learnt,
+  nearest-taken-below t,
+  nearest-taken.Post,
+) (nearest-taken-at t) nearest-taken.Post
+nearest-taken-sub-nearest-taken t c = search needs
+
+nearest-taken-nearest-taken-requires : (t : ℕ) → nearest-taken-lts.Need-nearest-taken-requires (
+  slot-before-reads.Asked,
+  slot-before-reads.Learnt,
+  nearest-taken-below t,
+  nearest-taken.Post,
+) (nearest-taken-at t) nearest-taken.Post
+nearest-taken-nearest-taken-requires t c κs = search needs
+
+nearest-taken-returns-3 : (t : ℕ) → nearest-taken-lts.Need-returns-3 (
+  slot-before-reads.Asked,
+  slot-before-reads.Learnt,
+  nearest-taken-below t,
+  nearest-taken.Post,
+) (nearest-taken-at t) nearest-taken.Post
+nearest-taken-returns-3 t c = (
+  rw (c .before .slot-before .ensures .0) at (c .nearest-taken .ensures .0) ∙ nearest-on _ _ _ _ (c .before .before .before .before .if1 .left) (ne-eqb _ 1 (c .before .before .if2 .left)),
+  c .nearest-taken .ensures .1,
+)
+
+pub +nearest-taken-spec : {M : Type 1} → statement M
++nearest-taken-spec = close μ-nearest-taken λ t. nearest-taken-lts.spec (
+  slot-before-reads.Asked,
+  slot-before-reads.Learnt,
+  nearest-taken-below t,
+  nearest-taken.Post,
+)
+    (nearest-taken-at t)
+    nearest-taken.Post
+    (nearest-taken-returns t)
+    (nearest-taken-shared-slice-read-if2 t)
+    (nearest-taken-returns-2 t)
+    (nearest-taken-slot-before-requires t)
+    (nearest-taken-sub-nearest-taken t)
+    (nearest-taken-nearest-taken-requires t)
+    (nearest-taken-returns-3 t)

@@ -1,0 +1,50 @@
+use Rattle.gap.proofs.Table.{nearest-same, taken-sends}
+use Rattle.gap.specs.Gaps.{taken}
+use Rattle.gap.specs.Gap.{slotBefore, predecessor, gapAt}
+use Rattle.plan.specs.Sending.{sends}
+use Rattle.laws.specs.Ring.{distance}
+use denote.Ref.{now}
+use mathlib.Core.Path.{_≡_, _∙_}
+use Prim.Native.Nat.{_+_, _-_, _%_}
+use borrow.Author.Needs.{needs}
+use Rattle.gap.proofs.node_gap.Statement.{statement}
+use Rattle.gap.proofs.node_gap.Tie as tie
+
+slot-before-requires : tie.Need-slot-before-requires
+slot-before-requires c κs = search needs
+
+sub-nearest-taken : tie.Need-sub-nearest-taken
+sub-nearest-taken c = search needs
+
+nearest-taken-requires : tie.Need-nearest-taken-requires
+nearest-taken-requires c κs = search needs
+
+add-t7 : tie.Need-add-t7
+add-t7 c = search needs
+
+sub-t9 : tie.Need-sub-t9
+sub-t9 c = search needs
+
+rem-t10 : tie.Need-rem-t10
+rem-t10 c = search needs
+
+returns : tie.Need-returns
+unfolding predecessor gapAt distance
+returns c = let a = c .before .before .before .before .args in
+    let C = a .plan .frame .0 in
+    let back = c .before .before .slot-before .ensures in
+    let same = nearest-same (taken (now (a .table))) (sends (a .plan)) C (C - 1) (slotBefore C (a .slot .0)) (rw (back .0) at (back .1)) (λ x l. taken-sends (a .plan) (now (a .table)) (c .before .before .before .before .pre .1) x) in
+    let p : c .before .nearest-taken .result ≡ predecessor (a .plan) (a .slot .0) = rw (back .0) at (c .before .nearest-taken .ensures .0) ∙ same in
+    λ j. record { predecessor = record { 0 = p j }; gap = record { 0 = (a .slot .0 + C - p j) % C } }
+
+pub node-gap-spec : {M : Type 1} → statement M
+node-gap-spec =
+    tie.close
+    (tie.spec
+    slot-before-requires
+    sub-nearest-taken
+    nearest-taken-requires
+    add-t7
+    sub-t9
+    rem-t10
+    returns)

@@ -1,0 +1,33 @@
+-- The predecessor and D of every node's sending slot at once, and the table they are found on.
+use Prim.Native.Nat.{ℕ, _≤_, _<_}
+use mathlib.Core.Path.{_≡_}
+use mathlib.Core.Bool.{Bool, cond}
+use mathlib.Core.List.{List}
+use lib.ListN.{length, getD, replicate}
+use lib.Dec.{eqb}
+use Rattle.laws.specs.Over.{over}
+use Rattle.plan.specs.declared.Plan.{Plan}
+use Rattle.plan.specs.Sending.{own, sends}
+use Rattle.gap.specs.declared.NodeGap.{NodeGap}
+use Rattle.gap.specs.declared.Gaps.{Gaps}
+use Rattle.gap.specs.Gap.{predecessor, gapAt}
+
+-- Slot s is marked as occupied in a table.
+abbrev pub taken : List ℕ → ℕ → Bool
+taken table s = eqb (getD table s 0) 1
+
+-- A table that holds 1 for each sending slot of the plan and 0 for every other.
+pub record Occupied (P : Plan) (table : List ℕ) : Type 0 where
+  pub long : 4096 ≤ length table
+  pub marks : (s : ℕ) → getD table s 0 ≡ cond (sends P s) 1 0
+
+-- The predecessor of slot s, and D(s).
+abbrev pub nodeGap : Plan → ℕ → NodeGap
+nodeGap P s = record { predecessor = record { 0 = predecessor P s }; gap = record { 0 = gapAt P s } }
+
+abbrev pub noGap : NodeGap
+noGap = record { predecessor = record { 0 = 0 }; gap = record { 0 = 0 } }
+
+-- These of each node's sending slot; 0 for places from N on.
+unfoldable pub gapsOf : Plan → Gaps
+gapsOf P = record { nodes = over (P .nodes .0) (λ i x. nodeGap P (own P i)) (replicate 32 noGap) }

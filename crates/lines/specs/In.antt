@@ -1,0 +1,54 @@
+-- A step line read: a step, or refusal 19.
+use Prim.Native.Nat.{ℕ, zero, suc, _+_, _*_, _-_}
+use mathlib.Core.Bool.{Bool, true, false, cond, not, _&&_, _||_}
+use mathlib.Core.List.{List, [], _∷_}
+use lib.ListN.{length, getD}
+use lib.Dec.{eqb, leb, ltb}
+use Rattle.laws.specs.Below.{allBelow}
+use Rattle.plan.specs.Refusals.{line-wrong}
+use Rattle.run.specs.declared.Step.{Step}
+use Rattle.run.specs.declared.Step.the-variants.{Delay, TickOf, SendOf}
+use Rattle.lines.specs.declared.Line.{Line}
+use Rattle.lines.specs.declared.Line.the-variants.{Asks, Refused}
+
+-- The byte at a place of the line; 0 past its end.
+abbrev pub byteOf : List ℕ → ℕ → ℕ
+byteOf line k = getD line k 0
+
+-- A decimal digit.
+abbrev pub isDigit : ℕ → Bool
+isDigit b = leb 48 b && leb b 57
+
+-- The number that the first n digits from place 2 on spell.
+unfoldable pub spelled : List ℕ → ℕ → ℕ
+spelled line zero = 0
+spelled line (suc n) = spelled line n * 10 + (byteOf line (2 + n) - 48)
+
+-- How many bytes stand between the blank and the newline.
+abbrev pub digitCount : List ℕ → ℕ
+digitCount line = length line - 3
+
+-- The line has the shape of a step line: a letter D, T or S, one blank, a number, a newline at the end.
+-- The number: digits alone, at least one, and no 0 in front of others.
+unfoldable pub isLetter : ℕ → Bool
+isLetter b = eqb b 68 || eqb b 84 || eqb b 83
+
+unfoldable pub lineShaped : List ℕ → Bool
+lineShaped line =
+    leb 4 (length line)
+    && isLetter (byteOf line 0)
+    && eqb (byteOf line 1) 32
+    && eqb (byteOf line (length line - 1)) 10
+    && allBelow (digitCount line) (λ k. isDigit (byteOf line (2 + k)))
+    && (eqb (digitCount line) 1 || not (eqb (byteOf line 2) 48))
+
+-- The step that a letter and a number ask for.
+abbrev pub stepBy : (letter n : ℕ) → Step
+stepBy letter n = cond (eqb letter 68) (Delay (record { 0 = n })) (cond (eqb letter 84) (TickOf (record { 0 = n })) (SendOf (record { 0 = n })))
+
+-- What a line asks for: 19 for another shape, or a number above 4,294,967,295.
+unfoldable pub lineOf : List ℕ → Line
+lineOf line =
+    cond (lineShaped line && leb (spelled line (digitCount line)) 4294967295)
+    (Asks (stepBy (byteOf line 0) (spelled line (digitCount line))))
+    (Refused line-wrong)

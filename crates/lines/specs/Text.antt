@@ -1,0 +1,40 @@
+-- Text as a list of bytes: words, numbers, and a text put into a lent buffer.
+use Prim.Native.Nat.{ℕ, zero, suc, _+_, _/_, _%_}
+use Prim.Native.Char.{code}
+use Prim.Native.String.{String, len, charAt}
+use mathlib.Core.Bool.{Bool, cond}
+use mathlib.Core.List.{List, [], _∷_, _++_}
+use lib.ListN.{length}
+use lib.Seq.{sets}
+use lib.Dec.{leb, ltb}
+use Rattle.lines.specs.declared.Wrote.{Wrote}
+use Rattle.lines.specs.declared.Wrote.the-variants.{To, NoRoom}
+
+-- The bytes of a word from place i on, `left` of them.
+abbrev pub bytesFrom : String → (left i : ℕ) → List ℕ
+bytesFrom s zero i = []
+bytesFrom s (suc left) i = code (charAt s i) ∷ bytesFrom s left (suc i)
+
+-- The bytes of a word.
+abbrev pub bytes : String → List ℕ
+bytes s = bytesFrom s (len s) 0
+
+-- The decimal digits of a number below 10 ^ places, with no leading zeros.
+unfoldable pub digitsWithin : (places n : ℕ) → List ℕ
+digitsWithin zero n = []
+digitsWithin (suc places) n = cond (ltb n 10) ((48 + n) ∷ []) (digitsWithin places (n / 10) ++ ((48 + n % 10) ∷ []))
+
+-- A number in decimal: 20 places hold every 64-bit number.
+abbrev pub decimal : ℕ → List ℕ
+decimal n = digitsWithin 20 n
+
+-- A text is written at a place of a buffer where `room` bytes are left from there on; else nothing is.
+abbrev pub hasRoom : (room : ℕ) → List ℕ → ℕ → Bool
+hasRoom room buffer at = leb (at + room) (length buffer)
+
+-- The answer, and what the buffer holds then: the text from its place on, every other byte as it was.
+unfoldable pub wroteOf : (room : ℕ) → List ℕ → ℕ → List ℕ → Wrote
+wroteOf room buffer at text = cond (hasRoom room buffer at) (To (at + length text)) NoRoom
+
+unfoldable pub bufferOf : (room : ℕ) → List ℕ → ℕ → List ℕ → List ℕ
+bufferOf room buffer at text = cond (hasRoom room buffer at) (sets buffer at text) buffer

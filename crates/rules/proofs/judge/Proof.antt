@@ -1,0 +1,37 @@
+use Rattle.rules.specs.Rules.{judgedOf}
+use borrow.Author.Tests.{eq-eqb, ne-eqb}
+use mathlib.Core.Path.{sym, _∙_}
+use borrow.Author.Needs.{needs}
+use Rattle.rules.proofs.judge.Statement.{statement}
+use Rattle.rules.proofs.judge.Tie as tie
+
+plan-number-requires : tie.Need-plan-number-requires
+plan-number-requires c κs = search needs
+
+returns : tie.Need-returns
+unfolding judgedOf
+returns c = rw (← c .before .plan-number .ensures, ne-eqb _ 0 (c .if1 .taken))
+
+gaps-tested-requires : tie.Need-gaps-tested-requires
+gaps-tested-requires c κs = search needs
+
+widest-tested-requires : tie.Need-widest-tested-requires
+widest-tested-requires c κs = search needs
+
+verdict-tested-requires : tie.Need-verdict-tested-requires
+verdict-tested-requires c κs = search needs
+
+returns-2 : tie.Need-returns-2
+unfolding judgedOf
+returns-2 c = rw (c .verdict-tested .ensures, eq-eqb _ 0 (sym (c .before .before .before .before .plan-number .ensures) ∙ c .before .before .before .if1 .left))
+
+pub judge-spec : {M : Type 1} → statement M
+judge-spec =
+    tie.close
+    (tie.spec
+    plan-number-requires
+    returns
+    gaps-tested-requires
+    widest-tested-requires
+    verdict-tested-requires
+    returns-2)

@@ -1,0 +1,22 @@
+use Prim.Native.Nat.{_≤_}
+use native.Mathlib.Nat.{mul-le-mul, mul-le-mul-right}
+use mathlib.Core.Path.{refl}
+use native.Mathlib.Omega.{arith}
+use Rattle.laws.proofs.Products.{fits-product}
+use borrow.Author.Needs.{needs}
+use Rattle.rules.proofs.slots_ticks.Statement.{statement}
+use Rattle.rules.proofs.slots_ticks.Tie as tie
+
+cast-result : tie.Need-cast-result
+cast-result c = search needs
+
+mul-result : tie.Need-mul-result
+mul-result c = fits-product 4096 255 (omega arith) (search needs) tt
+
+returns : tie.Need-returns
+returns c = let a = c .before .args in
+    let k : a .plan .ticks .0 ≤ 255 = search needs in
+    (refl, omega (arith, mul-le-mul-right (a .plan .ticks .0) (c .before .pre .1)), mul-le-mul (c .before .pre .0) k)
+
+pub slots-ticks-spec : {M : Type 1} → statement M
+slots-ticks-spec = tie.close (tie.spec cast-result mul-result returns)

@@ -1,0 +1,156 @@
+-- The parts that a failed rule's run is played with: from the plan and its verdict to facts on numbers.
+use Prim.Native.Nat.{ℕ, _+_, _*_, _-_, _≤_, _<_}
+use mathlib.Core.Path.{_≡_, refl, sym, ap, _∙_}
+use mathlib.Core.Logic.{_≢_}
+use mathlib.Core.Bool.{Bool, true, false, cond, _&&_}
+use native.Mathlib.Nat.{mul-le-mul-right}
+use native.Mathlib.Omega.{arith}
+use borrow.Author.Tests.{eqb-true, eqb-false, eq-eqb, ne-eqb, ltb-false}
+use lib.Dec.{eqb}
+use Rattle.laws.specs.Below.{firstBelow}
+use Rattle.laws.specs.Ring.{distance}
+use Rattle.laws.proofs.Bools.{and-true-left, and-true-right, true-not-false}
+use Rattle.laws.proofs.Belows.{first-passes, largest-reached, least-under, least-reached}
+use Rattle.laws.proofs.Products.{sub-mul}
+use Rattle.plan.specs.declared.Plan.{Plan}
+use Rattle.plan.specs.Sending.{own, sends}
+use Rattle.plan.specs.Tested.{Sound}
+use Rattle.plan.proofs.Sound.{sends-by}
+use Rattle.gap.specs.Gap.{predecessor, gapFor, gapOf}
+use Rattle.gap.proofs.Facts.{Before}
+use Rattle.gap.proofs.Others.{other, third}
+use Rattle.gap.proofs.Back.{before-own}
+use Rattle.gap.proofs.Bounds.{gap-low}
+use Rattle.rules.specs.declared.Rule.{Rule}
+use Rattle.rules.specs.declared.Rule.the-variants.{One, Two, Three}
+use Rattle.rules.specs.declared.Sides.{Sides}
+use Rattle.rules.specs.declared.Outcome.the-variants.{Accepted, Fails}
+use Rattle.rules.specs.Rules.{sidesAt, holds, outcomeBy, verdictAt, verdictOf}
+use Rattle.shown.specs.declared.Parts.{Parts}
+use Rattle.shown.specs.Parts.{predecessorAt, widestFrom, widestNode, senderIn, silentIn, partsWith, partsFor}
+use Rattle.shown.proofs.Roles.{Roles, farOf, Failure, one, two, three, far-away}
+
+-- the rule that the verdict names does not hold
+
+named : (s : Rule → Sides) (rule : Rule) → outcomeBy (s One) (s Two) (s Three) ≡ Fails rule → s rule .right ≤ s rule .left
+unfolding outcomeBy
+named s rule h = ltb-false (s rule .left) (s rule .right) (go (holds (s One)) refl (holds (s Two)) refl (holds (s Three)) refl h)
+  where
+    go : (a : Bool) → holds (s One) ≡ a → (b : Bool) → holds (s Two) ≡ b → (c : Bool) → holds (s Three) ≡ c
+        → cond a (cond b (cond c Accepted (Fails Three)) (Fails Two)) (Fails One) ≡ Fails rule → holds (s rule) ≡ false
+    go false e b x c y h = let z : One ≡ rule = cc in rw z at e
+    go true e false x c y h = let z : Two ≡ rule = cc in rw z at x
+    go true e true x false y h = let z : Three ≡ rule = cc in rw z at y
+    go true e true x true y h = absurd (let z : _≡_ {A = ℕ} 0 1 = cc in omega arith)
+
+-- each rule that does not hold, without subtraction
+module _ (k g min max : ℕ) where
+  one-fails : (m : ℕ) → 1 ≤ m → 1 ≤ g → g ≤ k → (m * k - 1) * min ≤ (m * k - g) * max → m * k * min + g * max ≤ m * k * max + min
+  one-fails m hm h1 hg r =
+      let away : 1 * k ≤ m * k = mul-le-mul-right k hm in
+      omega (arith, sub-mul (m * k) g max (omega arith), sub-mul (m * k) 1 min (omega arith))
+
+  two-fails : (m : ℕ) → g + 2 ≤ k → ((m + 1) * k - g - 2) * min ≤ m * k * max → (m + 1) * k * min ≤ m * k * max + (g + 2) * min
+  two-fails m h r =
+      let q : (m + 1) * k - g - 2 ≡ (m + 1) * k - (g + 2) = omega arith in
+      let r′ : ((m + 1) * k - (g + 2)) * min ≤ m * k * max = rw q at r in
+      omega (arith, sub-mul ((m + 1) * k) (g + 2) min (omega arith))
+
+  three-fails : (t : ℕ) → g + t + 2 ≤ k → (k - g - 1) * min ≤ (k - g - t) * max → k * min + (g + t) * max ≤ k * max + (g + 1) * min
+  three-fails t h r =
+      let q : k - g - t ≡ k - (g + t) = omega arith in
+      let q′ : k - g - 1 ≡ k - (g + 1) = omega arith in
+      let r′ : (k - (g + 1)) * min ≤ (k - (g + t)) * max = rw (q′, q) at r in
+      omega (arith, sub-mul k (g + t) max (omega arith), sub-mul k (g + 1) min (omega arith))
+
+module _ (P : Plan) (o : Sound P) where
+  -- the sender of a slot in which somebody sends
+  sender-sends : (s : ℕ) → sends P s ≡ true → (senderIn P s < P .nodes .0) × (own P (senderIn P s) ≡ s)
+  sender-sends s h =
+      let w = sends-by P s h in
+      let f = first-passes (P .nodes .0) (w .by) (λ i. eqb (own P i) s) (w .below) (eq-eqb (own P (w .by)) s (w .slot)) in
+      (f .0, eqb-true (own P (senderIn P s)) s (f .1))
+
+  -- the node that sends in s: its slot has D = M, and p is the slot's predecessor
+  pub record Widest (b p : ℕ) : Type 0 where
+    pub below : b < P .nodes .0
+    pub gap : gapFor P b ≡ gapOf P
+    pub from : predecessor P (own P b) ≡ p
+
+  widest-by : (p i : ℕ) → p < P .frame .0 → i < P .nodes .0 → predecessorAt P (gapOf P) i ≡ p → Widest i p
+  unfolding predecessorAt
+  widest-by p i hp hi e = go (eqb (gapFor P i) (gapOf P)) refl
+    where
+      go : (b : Bool) → eqb (gapFor P i) (gapOf P) ≡ b → Widest i p
+      go true q = record { below = hi; gap = eqb-true (gapFor P i) (gapOf P) q; from = rw q at e }
+      go false q = absurd (let z : P .frame .0 ≡ p = rw q at e in omega arith)
+
+  pub widest : Widest (widestNode P) (widestFrom P)
+  unfolding gapOf widestFrom widestNode predecessorAt
+  widest =
+      let w = largest-reached (P .nodes .0) (gapFor P) (omega (arith, o .nodes-low)) in
+      let at : predecessorAt P (gapOf P) (w .at) ≡ predecessor P (own P (w .at)) = rw (eq-eqb (gapFor P (w .at)) (gapOf P) (w .value)) in
+      let low = least-under (P .frame .0) (P .nodes .0) (predecessorAt P (gapOf P)) (w .at) (w .below) in
+      let within = before-own P o (w .at) (w .below) .within in
+      let l = least-reached (P .frame .0) (P .nodes .0) (predecessorAt P (gapOf P)) (w .at) (w .below) (omega arith) in
+      let f = first-passes (P .nodes .0) (l .at) (λ i. eqb (predecessorAt P (gapOf P) i) (widestFrom P)) (l .below) (eq-eqb (predecessorAt P (gapOf P) (l .at)) (widestFrom P) (l .value)) in
+      widest-by (widestFrom P) (widestNode P) (omega arith) (f .0) (eqb-true (predecessorAt P (gapOf P) (widestNode P)) (widestFrom P) (f .1))
+
+  -- p of rules 1 and 2 is a sending slot, b is the first to send after it, and that M slots later
+  widest-before : Before P (widestNode P) (widestFrom P)
+  widest-before = let z : predecessor P (own P (widestNode P)) ≡ widestFrom P = widest .from in rw z at (before-own P o (widestNode P) (widest .below))
+
+  module _ (c : Parts) (R : Roles P c) (e : c .p .0 ≡ widestFrom P) where
+    widest-far : farOf P c (widestNode P) ≡ gapOf P
+    widest-far = rw e (widest-before .away ∙ widest .gap)
+
+    widest-near : (j : ℕ) → j < P .nodes .0 → own P j ≢ c .p .0 → farOf P c (widestNode P) ≤ farOf P c j
+    widest-near j l n =
+        let z : 1 ≤ distance (P .frame .0) (widestFrom P) (own P j) = rw e at (far-away o R j l n) in
+        rw (e, widest-before .away) (widest-before .next .near j l z)
+
+  silent-away : (s i : ℕ) → silentIn P s i ≡ true → own P i ≢ s
+  silent-away s i h = eqb-false (own P i) s (true-not-false (eqb (own P i) s) h)
+
+  -- parts with p a sending slot and a fast node that doesn't send in it
+  roles-with : (p fast : ℕ) → sends P p ≡ true → fast < P .nodes .0 → own P fast ≢ p → Roles P (partsWith P p fast)
+  roles-with p fast s l n = let w = sender-sends p s in record { sender-below = w .0; sender-own = w .1; fast-below = l; fast-away = n }
+
+  pub record Cast (c : Parts) : Type 0 where
+    pub roles : Roles P c
+    pub failure : Failure P c
+
+  pub cast : (rule : Rule) → verdictOf P .outcome ≡ Fails rule → Cast (partsFor P rule)
+  unfolding verdictOf verdictAt sidesAt partsFor
+  cast One h =
+      let R = roles-with (widestFrom P) (widestNode P) (widest-before .sending) (widest .below) (λ e. widest-before .other (sym e)) in
+      let r = one-fails (P .ticks .0) (P .guard .0) (P .min .0) (P .max .0) (gapOf P) (gap-low P o) (o .guard-low) (omega (arith, o .guard-tail)) (named (sidesAt P (gapOf P)) One h) in
+      record { roles = R; failure = one (record { near = widest-near (partsFor P One) R refl; rule = rw (widest-far (partsFor P One) R refl) r }) }
+  cast Two h =
+      let p = widestFrom P in
+      let b = widestNode P in
+      let t = third P o p (own P b) in
+      let test : ℕ → Bool = λ i. silentIn P p i && silentIn P (own P b) i in
+      let f = first-passes (P .nodes .0) (t .by) test (t .below) (rw (ne-eqb (own P (t .by)) p (t .not-first), ne-eqb (own P (t .by)) (own P b) (t .not-second))) in
+      let i = firstBelow (P .nodes .0) test in
+      let off-p = silent-away p i (and-true-left (silentIn P p i) (silentIn P (own P b) i) (f .1)) in
+      let off-s = silent-away (own P b) i (and-true-right (silentIn P p i) (silentIn P (own P b) i) (f .1)) in
+      let R = roles-with p i (widest-before .sending) (f .0) off-p in
+      let r = two-fails (P .ticks .0) (P .guard .0) (P .min .0) (P .max .0) (gapOf P) (omega (arith, o .guard-tail)) (named (sidesAt P (gapOf P)) Two h) in
+      record {
+        roles = R;
+        failure =
+            two b (record {
+              below = widest .below;
+              away = λ e. widest-before .other (sym e);
+              other = λ e. off-s (ap (own P) (sym e));
+              near = widest-near (partsWith P p i) R refl;
+              rule = rw (widest-far (partsWith P p i) R refl) r;
+            });
+      }
+  cast Three h =
+      let t = other P o 0 in
+      let f = first-passes (P .nodes .0) (t .by) (silentIn P 0) (t .below) (rw (ne-eqb (own P (t .by)) 0 (t .silent))) in
+      let i = firstBelow (P .nodes .0) (silentIn P 0) in
+      let r = three-fails (P .ticks .0) (P .guard .0) (P .min .0) (P .max .0) (P .tail .0) (o .guard-tail) (named (sidesAt P (gapOf P)) Three h) in
+      record { roles = roles-with 0 i (o .slot-0-sends) (f .0) (silent-away 0 i (f .1)); failure = three (record { rule = r }) }

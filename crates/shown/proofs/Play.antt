@@ -1,0 +1,177 @@
+-- Which step of the shown run is next, and why: where no time is past due, it is legal.
+use Prim.Native.Nat.{ℕ, _+_, _-_, _≤_, _<_}
+use mathlib.Core.Path.{_≡_, refl}
+use mathlib.Core.Bool.{Bool, true, false, _&&_}
+use native.Mathlib.Omega.{arith}
+use borrow.Author.Tests.{ltb-true, ltb-false, eqb-true, eqb-false, le-ltb, eq-eqb}
+use lib.Dec.{eqb, ltb}
+use Rattle.laws.specs.Below.{firstBelow}
+use Rattle.laws.proofs.Bools.{and-true-left, and-true-right, cond-by}
+use Rattle.laws.proofs.Belows.{Found, found, none, first-found, any-never, least-under, least-reached}
+use Rattle.plan.specs.declared.Plan.{Plan}
+use Rattle.plan.specs.Tested.{Sound}
+use Rattle.run.specs.declared.Step.{Step}
+use Rattle.run.specs.declared.Step.the-variants.{Delay, TickOf, SendOf}
+use Rattle.run.specs.State.{node, isAbout, inRange, outOfStep}
+use Rattle.run.proofs.Legal.{StepLegal, KindLegal}
+use Rattle.shown.specs.declared.Mark.{Mark}
+use Rattle.shown.specs.declared.Mark.the-variants.{Before, In, After}
+use Rattle.shown.specs.declared.Place.{Place}
+use Rattle.shown.specs.declared.Parts.{Parts}
+use Rattle.shown.specs.Shown.{dueTime, isDue, pastDue, goesFirst, goesSecond, lowestAbout, lowestFirst, lowestSecond, lowestDue, timeToDue, nextStep}
+
+-- a truth value that cannot be true is false
+pub not-so : (b : Bool) → (b ≡ true → ⊥) → b ≡ false
+not-so true h = absurd (h refl)
+not-so false h = refl
+
+-- the first number below n that passes, by whether it is below n
+pub first-is : (n : ℕ) (f : ℕ → Bool) → ltb (firstBelow n f) n ≡ true → f (firstBelow n f) ≡ true
+first-is n f h = go (firstBelow n f) (first-found n f) (ltb-true (firstBelow n f) n h)
+  where
+    go : (i : ℕ) → Found n f i → i < n → f i ≡ true
+    go i (found l t b) m = t
+    go i (none e b) m = absurd (omega arith)
+
+pub first-is-none : (n : ℕ) (f : ℕ → Bool) → ltb (firstBelow n f) n ≡ false → (j : ℕ) → j < n → f j ≡ false
+first-is-none n f h = go (firstBelow n f) (first-found n f) (ltb-false (firstBelow n f) n h)
+  where
+    go : (i : ℕ) → Found n f i → n ≤ i → (j : ℕ) → j < n → f j ≡ false
+    go i (found l t b) m = absurd (omega arith)
+    go i (none e b) m = b
+
+-- nobody is about to send
+abbrev pub Quiet : Plan → Place → Type 0
+Quiet P q = (i : ℕ) → i < P .nodes .0 → isAbout (node (q .run) i .mode) ≡ false
+
+module _ (P : Plan) (c : Parts) (q : Place) where
+  -- no time is past due
+  abbrev pub OnTime : Type 0
+  OnTime = (i : ℕ) → i < P .nodes .0 → node (q .run) i .time .0 ≤ dueTime P c (q .mark) i
+
+  -- node i is due
+  abbrev pub Due : ℕ → Type 0
+  Due i = node (q .run) i .time .0 ≡ dueTime P c (q .mark) i
+
+  -- nobody who is due goes first, or next
+  abbrev pub NoneFirst : Type 0
+  NoneFirst = (j : ℕ) → j < P .nodes .0 → Due j → goesFirst P c (q .run) (q .mark) j ≡ false
+
+  abbrev pub NoneSecond : Type 0
+  NoneSecond = (j : ℕ) → j < P .nodes .0 → Due j → goesSecond c (q .mark) j ≡ false
+
+  -- why node i ticks and none of the others that are due
+  pub data Turn (i : ℕ) : Type 0 where
+    goes-first : goesFirst P c (q .run) (q .mark) i ≡ true → Turn i
+    goes-second : NoneFirst → goesSecond c (q .mark) i ≡ true → Turn i
+    goes-third : NoneFirst → NoneSecond → Turn i
+
+  pub record SendMove (i : ℕ) : Type 0 where
+    pub below : i < P .nodes .0
+    pub about : isAbout (node (q .run) i .mode) ≡ true
+
+  pub record TickMove (i : ℕ) : Type 0 where
+    pub below : i < P .nodes .0
+    pub quiet : Quiet P q
+    pub due : Due i
+    pub turn : Turn i
+
+  pub record DelayMove (d : ℕ) : Type 0 where
+    pub some : 1 ≤ d
+    pub quiet : Quiet P q
+    pub early : (i : ℕ) → i < P .nodes .0 → node (q .run) i .time .0 < dueTime P c (q .mark) i
+    pub within : (i : ℕ) → i < P .nodes .0 → node (q .run) i .time .0 + d ≤ dueTime P c (q .mark) i
+    pub to : ℕ
+    pub to-below : to < P .nodes .0
+    pub to-due : node (q .run) to .time .0 + d ≡ dueTime P c (q .mark) to
+
+  -- what is known of the next step, by its kind
+  abbrev pub Move : Step → Type 0
+  Move (Delay d) = DelayMove (d .0)
+  Move (TickOf i) = TickMove (i .0)
+  Move (SendOf i) = SendMove (i .0)
+
+-- due times lie between min and max
+pub due-high : (P : Plan) (c : Parts) → Sound P → (k : Mark) (i : ℕ) → dueTime P c k i ≤ P .max .0
+unfolding dueTime
+due-high P c o Before i = o .min-max
+due-high P c o In i = o .min-max
+due-high P c o After i = cond-by (λ (x : ℕ). x ≤ P .max .0) (eqb i (c .fast .0)) (P .min .0) (P .max .0) (λ e. o .min-max) (λ e. omega arith)
+
+pub due-low : (P : Plan) (c : Parts) → Sound P → (k : Mark) (i : ℕ) → P .min .0 ≤ dueTime P c k i
+unfolding dueTime
+due-low P c o Before i = omega arith
+due-low P c o In i = omega arith
+due-low P c o After i = cond-by (λ (x : ℕ). P .min .0 ≤ x) (eqb i (c .fast .0)) (P .min .0) (P .max .0) (λ e. omega arith) (λ e. o .min-max)
+
+module _ (P : Plan) (c : Parts) (o : Sound P) (q : Place) where
+  pub on-time : OnTime P c q → pastDue P c q ≡ false
+  unfolding pastDue
+  on-time t =
+      any-never (P .nodes .0) (λ i. ltb (dueTime P c (q .mark) i) (node (q .run) i .time .0))
+      (λ i l. le-ltb (dueTime P c (q .mark) i) (node (q .run) i .time .0) (t i l))
+
+  -- which step is next, and why
+  pub next-move : OnTime P c q → Move P c q (nextStep P c q)
+  unfolding nextStep
+  next-move t =
+      cond-by (Move P c q) (ltb (lowestAbout P q) (P .nodes .0)) _ _
+      (λ e. record { below = ltb-true (lowestAbout P q) (P .nodes .0) e; about = first-is (P .nodes .0) about e })
+      (λ e.
+      let a : Quiet P q = first-is-none (P .nodes .0) about e in
+      cond-by (Move P c q) (ltb (lowestFirst P c q) (P .nodes .0)) _ _ (λ e. tick first (λ i h. goes-first h) a e)
+      (λ e.
+      let n = none-of first (first-is-none (P .nodes .0) (λ i. isDue P c q i && first i) e) in
+      cond-by (Move P c q) (ltb (lowestSecond P c q) (P .nodes .0)) _ _ (λ e. tick second (λ i h. goes-second n h) a e)
+      (λ e.
+      let m = none-of second (first-is-none (P .nodes .0) (λ i. isDue P c q i && second i) e) in
+      cond-by (Move P c q) (ltb (lowestDue P c q) (P .nodes .0)) _ _
+      (λ e. record { below = ltb-true (lowestDue P c q) (P .nodes .0) e; quiet = a; due = due-is (lowestDue P c q) (first-is (P .nodes .0) (isDue P c q) e); turn = goes-third n m })
+      (λ e. wait a (first-is-none (P .nodes .0) (isDue P c q) e)))))
+    where
+      about : ℕ → Bool
+      about i = isAbout (node (q .run) i .mode)
+
+      first : ℕ → Bool
+      first i = goesFirst P c (q .run) (q .mark) i
+
+      second : ℕ → Bool
+      second i = goesSecond c (q .mark) i
+
+      due-is : (i : ℕ) → isDue P c q i ≡ true → Due P c q i
+      due-is i e = eqb-true (node (q .run) i .time .0) (dueTime P c (q .mark) i) e
+
+      none-of : (f : ℕ → Bool) → ((j : ℕ) → j < P .nodes .0 → (isDue P c q j && f j) ≡ false) → (j : ℕ) → j < P .nodes .0 → Due P c q j → f j ≡ false
+      none-of f h j l d = rw (eq-eqb (node (q .run) j .time .0) (dueTime P c (q .mark) j) d) at (h j l)
+
+      tick : (f : ℕ → Bool) → ((i : ℕ) → f i ≡ true → Turn P c q i) → Quiet P q → ltb (firstBelow (P .nodes .0) (λ i. isDue P c q i && f i)) (P .nodes .0) ≡ true
+          → TickMove P c q (firstBelow (P .nodes .0) (λ i. isDue P c q i && f i))
+      tick f turn a e =
+          let i = firstBelow (P .nodes .0) (λ i. isDue P c q i && f i) in
+          let both = first-is (P .nodes .0) (λ i. isDue P c q i && f i) e in
+          record { below = ltb-true i (P .nodes .0) e; quiet = a; due = due-is i (and-true-left (isDue P c q i) (f i) both); turn = turn i (and-true-right (isDue P c q i) (f i) both) }
+
+      wait : Quiet P q → ((j : ℕ) → j < P .nodes .0 → isDue P c q j ≡ false) → DelayMove P c q (timeToDue P c q)
+      wait a none-due =
+          let early : (i : ℕ) → i < P .nodes .0 → node (q .run) i .time .0 < dueTime P c (q .mark) i =
+          λ i l. omega (arith, t i l, eqb-false (node (q .run) i .time .0) (dueTime P c (q .mark) i) (none-due i l)) in
+          let left : ℕ → ℕ = λ i. dueTime P c (q .mark) i - node (q .run) i .time .0 in
+          let least = least-reached (P .max .0) (P .nodes .0) left 0 (omega (arith, o .nodes-low)) (omega (arith, due-high P c o (q .mark) 0)) in
+          record {
+            some = omega (arith, early (least .at) (least .below), least .value);
+            quiet = a;
+            early = early;
+            within = λ i l. omega (arith, early i l, least-under (P .max .0) (P .nodes .0) left i l);
+            to = least .at;
+            to-below = least .below;
+            to-due = omega (arith, early (least .at) (least .below), least .value);
+          }
+
+  -- and it is legal
+  pub move-legal : (s : Step) → inRange P (q .run) ≡ true → outOfStep P (q .run) ≡ false → Move P c q s → StepLegal P (q .run) s
+  move-legal s r e m = record { range = r; together = e; kind = kind s m }
+    where
+      kind : (s : Step) → Move P c q s → KindLegal P (q .run) s
+      kind (Delay d) m = record { some = m .some; none-about = m .quiet; within = λ i l. omega (arith, m .within i l, due-high P c o (q .mark) i) }
+      kind (TickOf i) m = record { below = m .below; ripe = omega (arith, m .due, due-low P c o (q .mark) (i .0)) }
+      kind (SendOf i) m = record { below = m .below; about = m .about }

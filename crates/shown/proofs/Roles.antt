@@ -1,0 +1,102 @@
+-- What the parts of a shown run are like, and how a rule fails, as facts on numbers.
+use Prim.Native.Nat.{ℕ, _+_, _*_, _≤_, _<_}
+use mathlib.Core.Path.{_≡_, sym, ap, _∙_}
+use mathlib.Core.Logic.{_≢_}
+use mathlib.Core.Bool.{true, not}
+use native.Mathlib.Decide.{ℕ-discrete}
+use native.Mathlib.Omega.{arith}
+use borrow.Author.Tests.{ne-eqb}
+use lib.ListN.{length}
+use Rattle.laws.specs.Below.{anyBelow}
+use Rattle.laws.specs.Ring.{distance}
+use Rattle.laws.proofs.Bools.{and-both}
+use Rattle.laws.proofs.Belows.{any-found}
+use Rattle.laws.proofs.Ring.{distance-same, distance-self, distance-below}
+use Rattle.plan.specs.declared.Plan.{Plan}
+use Rattle.plan.specs.Sending.{own}
+use Rattle.plan.specs.Tested.{Sound}
+use Rattle.plan.proofs.Sound.{own-in-frame}
+use Rattle.run.specs.declared.Run.{Run}
+use Rattle.run.specs.Moves.{nodeTicked, ticked, sent}
+use Rattle.run.proofs.Nodes.{node-ticked, node-still, node-sender, node-hearing}
+use Rattle.run.specs.State.{node, isSending, elsewhere, sendsApart, outOfStep}
+use Rattle.shown.specs.declared.Parts.{Parts}
+use Rattle.shown.proofs.Stands.{slot-fits}
+
+-- the sender of p sends in p, and the fast node doesn't
+pub record Roles (P : Plan) (c : Parts) : Type 0 where
+  pub sender-below : c .sender .0 < P .nodes .0
+  pub sender-own : own P (c .sender .0) ≡ c .p .0
+  pub fast-below : c .fast .0 < P .nodes .0
+  pub fast-away : own P (c .fast .0) ≢ c .p .0
+
+-- the number of slots from p to node i's own
+abbrev pub farOf : Plan → Parts → ℕ → ℕ
+farOf P c i = distance (P .frame .0) (c .p .0) (own P i)
+
+-- rule 1 fails at the distance of the fast node, and nobody sends nearer to p
+pub record FailsOne (P : Plan) (c : Parts) : Type 0 where
+  pub near : (j : ℕ) → j < P .nodes .0 → own P j ≢ c .p .0 → farOf P c (c .fast .0) ≤ farOf P c j
+  pub rule : farOf P c (c .fast .0) * P .ticks .0 * P .min .0 + P .guard .0 * P .max .0 ≤ farOf P c (c .fast .0) * P .ticks .0 * P .max .0 + P .min .0
+
+-- rule 2 fails at the distance of node b, another than the fast one, and nobody sends nearer to p
+pub record FailsTwo (P : Plan) (c : Parts) (b : ℕ) : Type 0 where
+  pub below : b < P .nodes .0
+  pub away : own P b ≢ c .p .0
+  pub other : b ≢ c .fast .0
+  pub near : (j : ℕ) → j < P .nodes .0 → own P j ≢ c .p .0 → farOf P c b ≤ farOf P c j
+  pub rule : (farOf P c b + 1) * P .ticks .0 * P .min .0 ≤ farOf P c b * P .ticks .0 * P .max .0 + (P .guard .0 + 2) * P .min .0
+
+-- rule 3 fails
+pub record FailsThree (P : Plan) : Type 0 where
+  pub rule : P .ticks .0 * P .min .0 + (P .guard .0 + P .tail .0) * P .max .0 ≤ P .ticks .0 * P .max .0 + (P .guard .0 + 1) * P .min .0
+
+pub data Failure (P : Plan) (c : Parts) : Type 0 where
+  one : FailsOne P c → Failure P c
+  two : (b : ℕ) → FailsTwo P c b → Failure P c
+  three : FailsThree P → Failure P c
+
+module _ {P : Plan} {c : Parts} (o : Sound P) (R : Roles P c) where
+  pub pivot-in-frame : c .p .0 < P .frame .0
+  pivot-in-frame = rw (R .sender-own) at (own-in-frame P o (c .sender .0) (R .sender-below))
+
+  -- who doesn't send in p sends a slot or more away from it, and who sends in p none
+  pub far-away : (i : ℕ) → i < P .nodes .0 → own P i ≢ c .p .0 → 1 ≤ farOf P c i
+  far-away i l n = go (ℕ-discrete (farOf P c i) 0)
+    where
+      go : Dec (farOf P c i ≡ 0) → 1 ≤ farOf P c i
+      go (yes e) = absurd (n (distance-same (P .frame .0) (c .p .0) (own P i) (c .p .0) pivot-in-frame (own-in-frame P o i l) pivot-in-frame (e ∙ sym (distance-self (P .frame .0) (c .p .0) pivot-in-frame))))
+      go (no e) = omega arith
+
+  pub far-none : (i : ℕ) → own P i ≡ c .p .0 → farOf P c i ≡ 0
+  far-none i e = rw e (distance-self (P .frame .0) (c .p .0) pivot-in-frame)
+
+  -- two nodes as far from p as one another are one node
+  pub far-same : (i j : ℕ) → i < P .nodes .0 → j < P .nodes .0 → farOf P c i ≡ farOf P c j → i ≡ j
+  far-same i j hi hj e = o .own-apart i j hi hj (distance-same (P .frame .0) (c .p .0) (own P i) (own P j) pivot-in-frame (own-in-frame P o i hi) (own-in-frame P o j hj) e)
+
+  -- the ticks to g of its own slot are fewer than a frame's
+  pub far-fits : (i : ℕ) → farOf P c i * P .ticks .0 + P .guard .0 < P .frame .0 * P .ticks .0
+  far-fits i = slot-fits o (farOf P c i) (distance-below (P .frame .0) (c .p .0) (own P i) (omega (arith, o .frame-low)))
+
+pub sender-not-fast : {P : Plan} {c : Parts} → Roles P c → c .sender .0 ≢ c .fast .0
+sender-not-fast R e = R .fast-away (rw e at (R .sender-own))
+
+-- a node that sends and a node in another slot: out of step
+pub out-is : (P : Plan) (r : Run) (i j : ℕ) → i < P .nodes .0 → j < P .nodes .0 → isSending (node r i .mode) ≡ true → node r j .slot .0 ≢ node r i .slot .0 → outOfStep P r ≡ true
+unfolding outOfStep sendsApart
+out-is P r i j hi hj s n =
+    any-found (P .nodes .0) i (sendsApart P r) hi
+    (and-both (isSending (node r i .mode)) (anyBelow (P .nodes .0) (elsewhere r i)) s (any-found (P .nodes .0) j (elsewhere r i) hj (ap not (ne-eqb (node r j .slot .0) (node r i .slot .0) n))))
+
+-- a send while another node is in another slot, and a tick to another slot than a sending node's
+module _ (P : Plan) (r : Run) (room : P .nodes .0 ≤ length (r .nodes)) (i j : ℕ) (hi : i < P .nodes .0) (hj : j < P .nodes .0) (n : j ≢ i) where
+  pub send-apart : node r j .slot .0 ≢ node r i .slot .0 → outOfStep P (sent P i r) ≡ true
+  send-apart d =
+      out-is P (sent P i r) i j hi hj (rw (node-sender P r i hi (omega arith)))
+      (rw (node-sender P r i hi (omega arith), node-hearing P r i j hj (omega arith) n) d)
+
+  pub tick-apart : isSending (node r j .mode) ≡ true → nodeTicked P (own P i) (node r i) .slot .0 ≢ node r j .slot .0 → outOfStep P (ticked P i r) ≡ true
+  tick-apart s d =
+      out-is P (ticked P i r) j i hj hi (rw (node-still P r i j n) s)
+      (rw (node-still P r i j n, node-ticked P r i (omega arith)) d)
