@@ -1,4 +1,4 @@
--- Every promise on a run leaves one answer: any two answers that it allows are equal. The functions of `run`, `steps` and `reckoning`, each over its own promise.
+-- Every promise on a run leaves one answer: any two answers that it allows are equal. The public functions of `run`, `moves`, `steps` and `reckoning`, each over its own promise.
 use Prim.Native.Nat.{ℕ}
 use mathlib.Core.Path.{_≡_, sym, _∙_}
 use mathlib.Core.Bool.{Bool, true}
