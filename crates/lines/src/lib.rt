@@ -8,13 +8,24 @@ use rules::Verdict;
 use run::Answer;
 use run::Step;
 ghost use mathlib.Core.Path.{_≡_};
+ghost use mathlib.Core.Bool.{cond};
 ghost use mathlib.Core.List.{[], _∷_, _++_};
 ghost use Prim.Native.Nat.{_+_, _≤_};
 ghost use lib.ListN.{length};
 ghost use lib.Dec.{leb};
-ghost use Rattle.lines.specs.Text.{decimal, Put, wroteOf, bufferOf};
+ghost use Rattle.rules.specs.Rules.{holds};
+ghost use Rattle.lines.specs.Text.{bytes, decimal, Put, wroteOf, bufferOf};
 ghost use Rattle.lines.specs.Out.{
-    ruleNumber, headLine, ruleLine, outcomeLine, verdictLines, refusedLine, judgedText, stepText, answerText, outText
+  ruleNumber,
+  headLine,
+  ruleLine,
+  outcomeLine,
+  verdictLines,
+  refusedLine,
+  judgedText,
+  stepText,
+  answerText,
+  outText,
 };
 
 // What a line of input asks for.
@@ -83,7 +94,6 @@ fn has_room(length: usize, at: usize, room: usize) -> bool
     at <= length - room
 }
 
-// The head line: 12 + 10 + 5 + 10 + 1 bytes at most.
 fn put_head(out: &mut [u8], at: usize, nodes: u32, gap: u32) -> usize
     requires { ⌜ at + 38 ≤ length (now out) ⌝ }
     ensures { λ r. ⌜ Put 38 (now (out .entry)) at (headLine nodes gap) (now (out .exit)) r ⌝ }
@@ -93,4 +103,180 @@ fn put_head(out: &mut [u8], at: usize, nodes: u32, gap: u32) -> usize
     let third = put_word(out, second, b" gap ");
     let fourth = put_number(out, third, gap);
     put_byte(out, fourth, b'\n')
+}
+
+fn rule_digit(rule: Rule) -> u8
+    ensures { λ r. ⌜ r ∷ [] ≡ decimal (ruleNumber rule) ⌝ }
+{
+    match rule {
+        Rule::One => b'1',
+        Rule::Two => b'2',
+        Rule::Three => b'3',
+    }
+}
+
+fn put_holds(out: &mut [u8], at: usize, sides: Sides) -> usize
+    requires { ⌜ at + 7 ≤ length (now out) ⌝ }
+    ensures { λ r. ⌜ Put 7 (now (out .entry)) at (cond (holds sides) (bytes " holds\n") (bytes " fails\n")) (now (out .exit)) r ⌝ }
+{
+    if sides.left < sides.right {
+        return put_word(out, at, b" holds\n");
+    }
+    put_word(out, at, b" fails\n")
+}
+
+fn put_rule(out: &mut [u8], at: usize, rule: Rule, sides: Sides) -> usize
+    requires { ⌜ at + 55 ≤ length (now out) ⌝ }
+    ensures { λ r. ⌜ Put 55 (now (out .entry)) at (ruleLine rule sides) (now (out .exit)) r ⌝ }
+{
+    let first = put_word(out, at, b"rule ");
+    let second = put_byte(out, first, rule_digit(rule));
+    let third = put_byte(out, second, b' ');
+    let fourth = put_side(out, third, sides.left);
+    let fifth = put_byte(out, fourth, b' ');
+    let sixth = put_side(out, fifth, sides.right);
+    put_holds(out, sixth, sides)
+}
+
+fn put_outcome(out: &mut [u8], at: usize, outcome: Outcome) -> usize
+    requires { ⌜ at + 16 ≤ length (now out) ⌝ }
+    ensures { λ r. ⌜ Put 16 (now (out .entry)) at (outcomeLine outcome) (now (out .exit)) r ⌝ }
+{
+    match outcome {
+        Outcome::Accepted => put_word(out, at, b"verdict in step\n"),
+        Outcome::Fails(rule) => {
+            let first = put_word(out, at, b"verdict rule ");
+            let second = put_byte(out, first, rule_digit(rule));
+            put_byte(out, second, b'\n')
+        }
+    }
+}
+
+fn put_verdict(out: &mut [u8], at: usize, nodes: u32, verdict: Verdict) -> usize
+    requires { ⌜ at + 219 ≤ length (now out) ⌝ }
+    ensures { λ r. ⌜ Put 219 (now (out .entry)) at (verdictLines nodes verdict) (now (out .exit)) r ⌝ }
+{
+    let first = put_head(out, at, nodes, verdict.gap.0 as u32);
+    let second = put_rule(out, first, Rule::One, verdict.one);
+    let third = put_rule(out, second, Rule::Two, verdict.two);
+    let fourth = put_rule(out, third, Rule::Three, verdict.three);
+    let outcome = verdict.outcome;
+    put_outcome(out, fourth, outcome)
+}
+
+fn put_refused(out: &mut [u8], at: usize, number: u8) -> usize
+    requires { ⌜ at + 19 ≤ length (now out) ⌝ }
+    ensures { λ r. ⌜ Put 19 (now (out .entry)) at (refusedLine number) (now (out .exit)) r ⌝ }
+{
+    let first = put_word(out, at, b"refused ");
+    let second = put_number(out, first, number as u32);
+    put_byte(out, second, b'\n')
+}
+
+// A step line: the letter, a blank, the number, a newline.
+fn put_line(out: &mut [u8], at: usize, letter: u8, number: u32) -> usize
+    requires { ⌜ at + 13 ≤ length (now out) ⌝ }
+    ensures { λ r. ⌜ Put 13 (now (out .entry)) at (letter ∷ 32 ∷ (decimal number ++ (10 ∷ []))) (now (out .exit)) r ⌝ }
+{
+    let first = put_byte(out, at, letter);
+    let second = put_byte(out, first, b' ');
+    let third = put_number(out, second, number);
+    put_byte(out, third, b'\n')
+}
+
+fn put_step(out: &mut [u8], at: usize, step: Step) -> usize
+    requires { ⌜ at + 13 ≤ length (now out) ⌝ }
+    ensures { λ r. ⌜ Put 13 (now (out .entry)) at (stepText step) (now (out .exit)) r ⌝ }
+{
+    match step {
+        Step::Delay(time) => put_line(out, at, b'D', time.0),
+        Step::TickOf(node) => put_line(out, at, b'T', node.0),
+        Step::SendOf(node) => put_line(out, at, b'S', node.0),
+    }
+}
+
+fn put_answer(out: &mut [u8], at: usize, answer: Answer) -> usize
+    requires { ⌜ at + 19 ≤ length (now out) ⌝ }
+    ensures { λ r. ⌜ Put 19 (now (out .entry)) at (answerText answer) (now (out .exit)) r ⌝ }
+{
+    match answer {
+        Answer::Done => put_word(out, at, b"ok\n"),
+        Answer::Refused(number) => put_refused(out, at, number),
+    }
+}
+
+fn put_judged(out: &mut [u8], at: usize, nodes: Node, judged: Judged) -> usize
+    requires { ⌜ at + 219 ≤ length (now out) ⌝ }
+    ensures { λ r. ⌜ Put 219 (now (out .entry)) at (judgedText (nodes .0) judged) (now (out .exit)) r ⌝ }
+{
+    match judged {
+        Judged::Gives(verdict) => put_verdict(out, at, nodes.0, verdict),
+        Judged::Refused(number) => put_refused(out, at, number),
+    }
+}
+
+fn put_out(out: &mut [u8], at: usize, a: u32, b: u32) -> usize
+    requires { ⌜ at + 26 ≤ length (now out) ⌝ }
+    ensures { λ r. ⌜ Put 26 (now (out .entry)) at (outText a b) (now (out .exit)) r ⌝ }
+{
+    let first = put_word(out, at, b"out ");
+    let second = put_number(out, first, a);
+    let third = put_byte(out, second, b' ');
+    let fourth = put_number(out, third, b);
+    put_byte(out, fourth, b'\n')
+}
+
+// The five lines of a verdict, or the one of a refusal.
+pub fn write_judged(out: &mut [u8], at: usize, nodes: Node, judged: Judged) -> Wrote
+    ensures { λ r. ⌜ r ≡ wroteOf 256 (now (out .entry)) at (judgedText (nodes .0) judged) ⌝ }
+    ensures { λ _. ⌜ now (out .exit) ≡ bufferOf 256 (now (out .entry)) at (judgedText (nodes .0) judged) ⌝ }
+{
+    if has_room(out.len(), at, 256) {
+        return Wrote::To(put_judged(out, at, nodes, judged));
+    }
+    Wrote::NoRoom
+}
+
+// A step line.
+pub fn write_step(out: &mut [u8], at: usize, step: Step) -> Wrote
+    ensures { λ r. ⌜ r ≡ wroteOf 32 (now (out .entry)) at (stepText step) ⌝ }
+    ensures { λ _. ⌜ now (out .exit) ≡ bufferOf 32 (now (out .entry)) at (stepText step) ⌝ }
+{
+    if has_room(out.len(), at, 32) {
+        return Wrote::To(put_step(out, at, step));
+    }
+    Wrote::NoRoom
+}
+
+// The last line of a shown run.
+pub fn write_out(out: &mut [u8], at: usize, a: Node, b: Node) -> Wrote
+    ensures { λ r. ⌜ r ≡ wroteOf 32 (now (out .entry)) at (outText (a .0) (b .0)) ⌝ }
+    ensures { λ _. ⌜ now (out .exit) ≡ bufferOf 32 (now (out .entry)) at (outText (a .0) (b .0)) ⌝ }
+{
+    if has_room(out.len(), at, 32) {
+        return Wrote::To(put_out(out, at, a.0, b.0));
+    }
+    Wrote::NoRoom
+}
+
+// The answer to a step.
+pub fn write_answer(out: &mut [u8], at: usize, answer: Answer) -> Wrote
+    ensures { λ r. ⌜ r ≡ wroteOf 32 (now (out .entry)) at (answerText answer) ⌝ }
+    ensures { λ _. ⌜ now (out .exit) ≡ bufferOf 32 (now (out .entry)) at (answerText answer) ⌝ }
+{
+    if has_room(out.len(), at, 32) {
+        return Wrote::To(put_answer(out, at, answer));
+    }
+    Wrote::NoRoom
+}
+
+// The one line of a refusal.
+pub fn write_refused(out: &mut [u8], at: usize, number: u8) -> Wrote
+    ensures { λ r. ⌜ r ≡ wroteOf 32 (now (out .entry)) at (refusedLine number) ⌝ }
+    ensures { λ _. ⌜ now (out .exit) ≡ bufferOf 32 (now (out .entry)) at (refusedLine number) ⌝ }
+{
+    if has_room(out.len(), at, 32) {
+        return Wrote::To(put_refused(out, at, number));
+    }
+    Wrote::NoRoom
 }

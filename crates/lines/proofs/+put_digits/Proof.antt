@@ -2,7 +2,7 @@ use mathlib.Core.Path.{ap}
 use lib.ListN.{length}
 use native.Mathlib.Omega.{arith}
 use Rattle.lines.proofs.Decimals.{decimal-one, decimal-more, length-more}
-use Rattle.lines.proofs.Puts.{put-as, put-both}
+use Rattle.lines.proofs.Puts.{put-as, _then_}
 use borrow.Author.Needs.{needs}
 use Prim.Native.Nat.{ℕ, _<_}
 use borrow.Fn.Kinds.{In}
@@ -123,7 +123,7 @@ put-digits-returns-2 : (t : ℕ) → put-digits-lts.Need-returns-2 (
   put-digits.Post,
 ) (put-digits-at t) put-digits.Post
 put-digits-returns-2 t c =
-    put-as (decimal-more _ (c .before .before .before .before .before .before .before .before .if1 .left) (omega arith)) (put-both (c .before .before .before .before .before .before .put-digits .ensures) (c .before .before .put-byte2 .ensures))
+    put-as (decimal-more _ (c .before .before .before .before .before .before .before .before .if1 .left) (omega arith)) (c .before .before .before .before .before .before .put-digits .ensures then c .before .before .put-byte2 .ensures)
 
 pub +put-digits-spec : {M : Type 1} → statement M
 +put-digits-spec = close μ-put-digits λ t. put-digits-lts.spec (

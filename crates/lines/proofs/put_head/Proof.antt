@@ -1,4 +1,4 @@
-use Rattle.lines.proofs.Puts.{put-both}
+use Rattle.lines.proofs.Puts.{_then_}
 use borrow.Author.Needs.{needs}
 use Rattle.lines.proofs.put_head.Statement.{statement}
 use Rattle.lines.proofs.put_head.Tie as tie
@@ -48,7 +48,7 @@ returns c =
     let at₃ = at₄ .before .before .before .before in
     let at₂ = at₃ .before .before .before .before .before in
     let at₁ = at₂ .before .before .before .before in
-    put-both (put-both (put-both (put-both (at₁ .put-word .ensures) (at₂ .put-number .ensures)) (at₃ .put-word2 .ensures)) (at₄ .put-number2 .ensures)) (at₅ .put-byte .ensures)
+    at₁ .put-word .ensures then at₂ .put-number .ensures then at₃ .put-word2 .ensures then at₄ .put-number2 .ensures then at₅ .put-byte .ensures
 
 pub put-head-spec : {M : Type 1} → statement M
 put-head-spec =
