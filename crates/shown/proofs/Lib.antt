@@ -10,4 +10,5 @@ pub mod Later
 pub mod Rounds
 pub mod Dawn
 pub mod Casting
+pub mod Widest
 pub mod Why

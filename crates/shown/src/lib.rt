@@ -1,6 +1,9 @@
 // The run shown for a plan that fails a rule, given out step by step.
+mod players;
+
 use plan::Node;
 use plan::Slot;
+pub use players::parts_tested;
 use run::Run;
 use run::Step;
 
