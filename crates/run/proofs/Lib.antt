@@ -2,3 +2,5 @@ pub mod Outcomes
 pub mod Nodes
 pub mod Legal
 pub mod Ranges
+pub mod Apartness
+pub mod Unique

@@ -1,8 +1,22 @@
-// A run, step by step: the state, the steps, out of step, and a node's reckoning.
+// A run: its state, fresh, in range, and out of step. The steps of a run are types here, and code in the crates above.
+mod elsewhere;
+mod modes;
+mod range;
+
+pub use elsewhere::apart_tested;
+pub use elsewhere::is_apart;
+pub use modes::is_about;
+pub use range::in_range;
+ghost use mathlib.Core.Path.{_≡_};
+ghost use Rattle.run.specs.State.{freshRun};
+ghost use Rattle.run.specs.Steps.{apartTest};
 use plan::Node;
+use plan::Plan;
+use plan::RUN_OUTSIDE;
 use plan::Slot;
 use plan::Tick;
 use plan::Time;
+use plan::plan_number;
 
 pub enum Mode {
     Waiting,
@@ -60,4 +74,36 @@ pub enum Apart {
 pub enum Reckoned {
     Ticks(u32),
     Refused(u8),
+}
+
+// A run at its beginning: all numbers 0, all waiting, nothing pending, none sent.
+pub fn fresh() -> Run
+    ensures { λ r. ⌜ r ≡ freshRun ⌝ }
+{
+    let node = NodeState {
+        clock: Tick(0),
+        slot: Slot(0),
+        time: Time(0),
+        mode: Mode::Waiting,
+        pending: false,
+    };
+    let nodes = [node; 32];
+    Run {
+        nodes: nodes,
+        last: Last::Nothing,
+    }
+}
+
+// The out-of-step test of any plan on any run.
+pub fn out_of_step(plan: Plan, run: Run) -> Apart
+    ensures { λ r. ⌜ r ≡ apartTest plan run ⌝ }
+{
+    let number = plan_number(plan);
+    if number != 0 {
+        return Apart::Refused(number);
+    }
+    if !in_range(plan, run) {
+        return Apart::Refused(RUN_OUTSIDE);
+    }
+    apart_tested(plan, run)
 }

@@ -1,0 +1,73 @@
+// Out of step: a node is sending and some node has another slot number. The lowest sending node decides for all.
+ghost use mathlib.Core.Path.{_≡_};
+ghost use Prim.Native.Nat.{_<_};
+ghost use Rattle.laws.specs.Below.{firstBelow};
+ghost use Rattle.plan.specs.Tested.{Sound};
+ghost use Rattle.run.specs.State.{node, isSending, elsewhere, outOfStep, apartOf};
+use crate::Apart;
+use crate::Run;
+use crate::modes::is_sending;
+use plan::Node;
+use plan::Plan;
+
+// The lowest sending node; N where none is sending.
+fn first_sending(plan: Plan, run: Run) -> usize
+    requires { ⌜ Sound plan ⌝ }
+    ensures { λ r. ⌜ r ≡ firstBelow (plan .nodes .0) (λ i. isSending (node run i .mode)) ⌝ }
+{
+    let n = plan.nodes.0 as usize;
+    for i in 0..n {
+        let node = run.nodes[i];
+        let mode = node.mode;
+        if is_sending(mode) {
+            return i;
+        }
+    }
+    n
+}
+
+// The lowest node in another slot than node i; N where there is none.
+fn first_elsewhere(plan: Plan, run: Run, i: usize) -> usize
+    requires { ⌜ Sound plan ⌝ }
+    requires { ⌜ i < plan .nodes .0 ⌝ }
+    ensures { λ r. ⌜ r ≡ firstBelow (plan .nodes .0) (elsewhere run i) ⌝ }
+{
+    let n = plan.nodes.0 as usize;
+    let sender = run.nodes[i];
+    for j in 0..n {
+        let node = run.nodes[j];
+        if node.slot.0 != sender.slot.0 {
+            return j;
+        }
+    }
+    n
+}
+
+// The out-of-step test of a plan that passed 1 to 9.
+pub fn apart_tested(plan: Plan, run: Run) -> Apart
+    requires { ⌜ Sound plan ⌝ }
+    ensures { λ r. ⌜ r ≡ apartOf plan run ⌝ }
+{
+    let n = plan.nodes.0 as usize;
+    let i = first_sending(plan, run);
+    if n <= i {
+        return Apart::InStep;
+    }
+    let j = first_elsewhere(plan, run, i);
+    if n <= j {
+        return Apart::InStep;
+    }
+    Apart::Out(Node(i as u32), Node(j as u32))
+}
+
+pub fn is_apart(plan: Plan, run: Run) -> bool
+    requires { ⌜ Sound plan ⌝ }
+    ensures { λ r. ⌜ r ≡ outOfStep plan run ⌝ }
+{
+    let apart = apart_tested(plan, run);
+    match apart {
+        Apart::InStep => false,
+        Apart::Out(_, _) => true,
+        Apart::Refused(_) => false,
+    }
+}
