@@ -11,4 +11,5 @@ pub mod Rounds
 pub mod Dawn
 pub mod Casting
 pub mod Widest
+pub mod Looks
 pub mod Why

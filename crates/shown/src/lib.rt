@@ -1,4 +1,5 @@
 // The run shown for a plan that fails a rule, given out step by step.
+mod looking;
 mod players;
 
 use plan::Node;
@@ -37,4 +38,18 @@ pub enum Next {
 pub struct Given {
     pub next: Next,
     pub place: Place,
+}
+
+// The lowest node about to send, and the lowest due of those who go first, of those who go next, of all; N where there is none.
+struct Seen {
+    pub about: Node,
+    pub first: Node,
+    pub second: Node,
+    pub due: Node,
+}
+
+// What a look round the nodes tells: a time is past due, or who could go next.
+enum Looked {
+    PastDue,
+    OnTime(Seen),
 }
