@@ -10,11 +10,15 @@ use Rattle.laws.specs.Below.{firstFrom}
 use Rattle.laws.proofs.Belows.{any-found, any-never}
 use Rattle.plan.specs.declared.Plan.{Plan}
 use Rattle.plan.specs.declared.Node.{Node}
+use Rattle.plan.specs.declared.Time.{Time}
+use Rattle.run.specs.declared.Step.{Step}
+use Rattle.run.specs.declared.Step.the-variants.{Delay, TickOf, SendOf}
 use Rattle.run.specs.State.{node, isAbout}
 use Rattle.shown.specs.declared.Parts.{Parts}
 use Rattle.shown.specs.declared.Place.{Place}
+use Rattle.shown.specs.declared.Seen.{Seen}
 use Rattle.shown.specs.declared.Looked.the-variants.{PastDue, OnTime}
-use Rattle.shown.specs.Shown.{dueTime, isDue, pastDue, goesFirst, goesSecond}
+use Rattle.shown.specs.Shown.{dueTime, isDue, pastDue, goesFirst, goesSecond, timeToDue, nextStep}
 use Rattle.shown.specs.Looking.{lowestFrom, seenFrom, lookedOf}
 
 pub first-earlier : (n i : ℕ) (f : ℕ → Bool) → i < n → cond (f i) i (firstFrom f (n - (i + 1)) (i + 1)) ≡ firstFrom f (n - i) i
@@ -72,3 +76,15 @@ module _ (P : Plan) (c : Parts) (q : Place) where
   pub on-time-looked : ((i : ℕ) → i < P .nodes .0 → node (q .run) i .time .0 ≤ dueTime P c (q .mark) i) → OnTime (seenFrom P c q 0) ≡ lookedOf P c q
   unfolding lookedOf pastDue
   on-time-looked h = rw (any-never (P .nodes .0) (λ k. ltb (dueTime P c (q .mark) k) (node (q .run) k .time .0)) (λ i l. le-ltb (dueTime P c (q .mark) i) (node (q .run) i .time .0) (h i l)))
+
+-- the step that was seen, where `wait` is the time to the first due moment
+abbrev pub chosen : Plan → Seen → Time → Step
+chosen P seen wait =
+    cond (ltb (seen .about .0) (P .nodes .0)) (SendOf (seen .about))
+    (cond (ltb (seen .first .0) (P .nodes .0)) (TickOf (seen .first))
+    (cond (ltb (seen .second .0) (P .nodes .0)) (TickOf (seen .second))
+    (cond (ltb (seen .due .0) (P .nodes .0)) (TickOf (seen .due)) (Delay wait))))
+
+pub chosen-next : (P : Plan) (c : Parts) (q : Place) (seen : Seen) → seen ≡ seenFrom P c q 0 → chosen P seen (record { 0 = timeToDue P c q }) ≡ nextStep P c q
+unfolding seenFrom nextStep
+chosen-next P c q seen e = let z : P .nodes .0 - 0 ≡ P .nodes .0 = omega arith in rw e (rw z)

@@ -1,4 +1,5 @@
 // The run shown for a plan that fails a rule, given out step by step.
+mod choosing;
 mod looking;
 mod players;
 

@@ -24,7 +24,7 @@ use run::Run;
 use run::is_about;
 
 // The time since tick at which node i is due.
-fn due_time(plan: Plan, parts: Parts, mark: Mark, i: Node) -> Time
+pub fn due_time(plan: Plan, parts: Parts, mark: Mark, i: Node) -> Time
     ensures { λ r. ⌜ r .0 ≡ dueTime plan parts mark (i .0) ⌝ }
 {
     match mark {
