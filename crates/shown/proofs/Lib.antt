@@ -1,6 +1,7 @@
 pub mod Worked
 pub mod Sums
 pub mod Play
+pub mod Giving
 pub mod Progress
 pub mod Stands
 pub mod Roles

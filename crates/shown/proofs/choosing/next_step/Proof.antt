@@ -1,45 +1,34 @@
-use mathlib.Core.Path.{_≡_, ap, _∙_}
+use mathlib.Core.Path.{_∙_}
 use borrow.Author.Tests.{lt-ltb, le-ltb}
-use Rattle.run.specs.declared.Step.the-variants.{Delay, TickOf, SendOf}
-use Rattle.shown.proofs.Looks.{chosen, chosen-next}
-use Rattle.shown.specs.Shown.{timeToDue}
-use Rattle.shown.specs.declared.Place.{Place}
+use Rattle.run.specs.declared.Step.the-variants.{Delay}
+use Rattle.shown.proofs.Looks.{chosen-next}
 use borrow.Author.Needs.{needs}
 use Rattle.shown.proofs.choosing.next_step.Statement.{statement}
 use Rattle.shown.proofs.choosing.next_step.Tie as tie
-use Rattle.shown.proofs.choosing.next_step.Reads as reads
-use Rattle.shown.proofs.choosing.next_step.Lts as lts
-use Rattle.shown.proofs.choosing.time_to_due.Reads as time-to-due-reads
 
--- src/choosing.rt:61:9
 returns : tie.Need-returns
 returns c =
     let b = c .before .before .before in
     rw (lt-ltb _ _ (c .if1 .taken)) at (chosen-next (b .args .plan) (b .args .parts) (record { run = b .args .run; mark = b .args .mark }) (b .args .seen) (b .pre .1))
 
--- src/choosing.rt:65:9
 returns-2 : tie.Need-returns-2
 returns-2 c =
     let b = c .before .before .before .before .before .before in
     rw (le-ltb _ _ (c .before .before .before .if1 .left), lt-ltb _ _ (c .if2 .taken)) at (chosen-next (b .args .plan) (b .args .parts) (record { run = b .args .run; mark = b .args .mark }) (b .args .seen) (b .pre .1))
 
--- src/choosing.rt:69:9
 returns-3 : tie.Need-returns-3
 returns-3 c =
     let b = c .before .before .before .before .before .before .before .before .before in
     rw (le-ltb _ _ (c .before .before .before .before .before .before .if1 .left), le-ltb _ _ (c .before .before .before .if2 .left), lt-ltb _ _ (c .if3 .taken)) at (chosen-next (b .args .plan) (b .args .parts) (record { run = b .args .run; mark = b .args .mark }) (b .args .seen) (b .pre .1))
 
--- src/choosing.rt:73:9
 returns-4 : tie.Need-returns-4
 returns-4 c =
     let b = c .before .before .before .before .before .before .before .before .before .before .before .before in
     rw (le-ltb _ _ (c .before .before .before .before .before .before .before .before .before .if1 .left), le-ltb _ _ (c .before .before .before .before .before .before .if2 .left), le-ltb _ _ (c .before .before .before .if3 .left), lt-ltb _ _ (c .if4 .taken)) at (chosen-next (b .args .plan) (b .args .parts) (record { run = b .args .run; mark = b .args .mark }) (b .args .seen) (b .pre .1))
 
--- src/choosing.rt:75:17
 time-to-due-requires : tie.Need-time-to-due-requires
 time-to-due-requires c κs = search needs
 
--- src/choosing.rt:53:1
 returns-5 : tie.Need-returns-5
 returns-5 c =
     let b = c .before .before .before .before .before .before .before .before .before .before .before .before .before in

@@ -8,10 +8,6 @@ use Rattle.run.specs.State.{node}
 use borrow.Author.Needs.{needs}
 use Rattle.shown.proofs.choosing.time_to_due.Statement.{statement}
 use Rattle.shown.proofs.choosing.time_to_due.Tie as tie
-use Rattle.shown.proofs.choosing.time_to_due.Reads as reads
-use Rattle.shown.proofs.choosing.time_to_due.Lts as lts
-use Rattle.shown.proofs.choosing.nearer.Reads as nearer-reads
-use Rattle.shown.proofs.looking.due_time.Reads as due-time-reads
 
 abbrev Inv-loop : tie.InvT-loop
 Inv-loop plan parts mark run least₀ i₀ end least i = (i ≤ plan .nodes .0) × (least ≡ leastBelow (plan .max .0) i (λ k. dueTime plan parts mark k - node run k .time .0))
@@ -19,46 +15,36 @@ Inv-loop plan parts mark run least₀ i₀ end least i = (i ≤ plan .nodes .0) 
 abbrev μ-loop : tie.MeasureT-loop
 μ-loop plan parts mark run least₀ i₀ end least i = plan .nodes .0 - i
 
--- src/choosing.rt:44:5
 loop-holds : tie.Need-loop-holds Inv-loop μ-loop
 loop-holds c = (search needs, sym (least-none _ _))
 
--- src/choosing.rt:45:31
 cast-state : tie.Need-cast-state Inv-loop μ-loop
 cast-state c = search needs
 
--- src/choosing.rt:45:21
 mul-state : tie.Need-mul-state Inv-loop μ-loop
 mul-state c = search needs
 
--- src/choosing.rt:45:21
 element-copy-out-state : tie.Need-element-copy-out-state Inv-loop μ-loop
 element-copy-out-state c = search needs
 
--- src/choosing.rt:46:13
 due-time-requires : tie.Need-due-time-requires Inv-loop μ-loop
 due-time-requires c κs = search needs
 
--- src/choosing.rt:47:9
 nearer-requires : tie.Need-nearer-requires Inv-loop μ-loop
 nearer-requires c κs = search needs
 
--- src/choosing.rt:44:9
 add-i : tie.Need-add-i Inv-loop μ-loop
 add-i c = search needs
 
--- src/choosing.rt:44:5
 loop-less : tie.Need-loop-less Inv-loop μ-loop
 loop-less c = search needs
 
--- src/choosing.rt:44:5
 loop-again : tie.Need-loop-again Inv-loop μ-loop
 loop-again c =
     let a = c .before .before .before .before .before .args in
     let l = c .before .before .before .before .loop in
     (search needs, c .nearer .ensures ∙ rw (l .inv .1, c .before .due-time .ensures) (sym (least-more (a .plan .max .0) (l .i) (λ k. dueTime (a .plan) (a .parts) (a .mark) k - node (a .t3) k .time .0))))
 
--- src/choosing.rt:39:1
 returns : tie.Need-returns Inv-loop μ-loop
 returns c =
     let a = c .before .before .args in

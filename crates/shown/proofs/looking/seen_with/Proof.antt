@@ -1,7 +1,6 @@
 use lib.Dec.{eqb}
-use Prim.Native.Nat.{ℕ}
 use mathlib.Core.Path.{_≡_, ap, _∙_}
-use mathlib.Core.Bool.{Bool, _&&_}
+use mathlib.Core.Bool.{_&&_}
 use Rattle.shown.proofs.Looks.{lowest-with}
 use Rattle.shown.specs.Looking.{seenFrom}
 use Rattle.shown.specs.Shown.{isDue, goesFirst, goesSecond}
@@ -10,56 +9,37 @@ use Rattle.run.specs.State.{node, isAbout}
 use borrow.Author.Needs.{needs}
 use Rattle.shown.proofs.looking.seen_with.Statement.{statement}
 use Rattle.shown.proofs.looking.seen_with.Tie as tie
-use Rattle.shown.proofs.looking.seen_with.Reads as reads
-use Rattle.shown.proofs.looking.seen_with.Lts as lts
-use Rattle.run.proofs.is_about.Reads as is-about-reads
-use Rattle.shown.proofs.looking.both.Reads as both-reads
-use Rattle.shown.proofs.looking.due_time.Reads as due-time-reads
-use Rattle.shown.proofs.looking.goes_first.Reads as goes-first-reads
-use Rattle.shown.proofs.looking.goes_second.Reads as goes-second-reads
-use Rattle.shown.proofs.looking.lower.Reads as lower-reads
 
--- src/looking.rt:115:9
 due-time-requires : tie.Need-due-time-requires
 due-time-requires c κs = search needs
 
--- src/looking.rt:117:27
 goes-first-requires : tie.Need-goes-first-requires
 goes-first-requires c κs = search needs
 
--- src/looking.rt:117:9
 both-requires : tie.Need-both-requires
 both-requires c κs = search needs
 
--- src/looking.rt:118:28
 goes-second-requires : tie.Need-goes-second-requires
 goes-second-requires c κs = search needs
 
--- src/looking.rt:118:9
 both-requires-2 : tie.Need-both-requires-2
 both-requires-2 c κs = search needs
 
--- src/looking.rt:121:22
 is-about-requires : tie.Need-is-about-requires
 is-about-requires c κs = search needs
 
--- src/looking.rt:121:16
 lower-requires : tie.Need-lower-requires
 lower-requires c κs = search needs
 
--- src/looking.rt:122:16
 lower-requires-2 : tie.Need-lower-requires-2
 lower-requires-2 c κs = search needs
 
--- src/looking.rt:123:17
 lower-requires-3 : tie.Need-lower-requires-3
 lower-requires-3 c κs = search needs
 
--- src/looking.rt:124:14
 lower-requires-4 : tie.Need-lower-requires-4
 lower-requires-4 c κs = search needs
 
--- src/looking.rt:109:1
 returns : tie.Need-returns
 unfolding seenFrom
 returns c q m s e =

@@ -9,8 +9,6 @@ use Rattle.run.specs.declared.Mode.the-variants.{Waiting, AboutToSend, Sending}
 use borrow.Author.Needs.{needs}
 use Rattle.shown.proofs.looking.turns.Statement.{statement}
 use Rattle.shown.proofs.looking.turns.Tie as tie
-use Rattle.shown.proofs.looking.turns.Reads as reads
-use Rattle.shown.proofs.looking.turns.Lts as lts
 
 about-if : (b : Bool) → b ≡ isAbout (cond b AboutToSend Waiting)
 about-if true = refl
@@ -20,48 +18,38 @@ never-about : (b : Bool) → false ≡ isAbout (cond b Waiting Sending)
 never-about true = refl
 never-about false = refl
 
--- src/looking.rt:49:16
 enum-told : tie.Need-enum-told
 enum-told c = search needs
 
--- src/looking.rt:50:17
 returns : tie.Need-returns
 unfolding modeAfter
 returns c = rw (c .before .before .before .enum-told .given .1, ne-eqb _ _ (c .if1 .taken))
 
--- src/looking.rt:52:13
 cast-result : tie.Need-cast-result
 cast-result c = search needs
 
--- src/looking.rt:52:13
 add-result : tie.Need-add-result
 add-result c = search needs
 
--- src/looking.rt:52:40
 cast-result-2 : tie.Need-cast-result-2
 cast-result-2 c = search needs
 
--- src/looking.rt:54:30
 enum-told-2 : tie.Need-enum-told-2
 enum-told-2 c = search needs
 
--- src/looking.rt:55:26
 enum-told-3 : tie.Need-enum-told-3
 enum-told-3 c = search needs
 
--- src/looking.rt:43:1
 returns-2 : tie.Need-returns-2
 unfolding modeAfter
 returns-2 c =
     let a = c .before .before .before .before .before .before .before .args in
     rw (c .before .before .before .before .before .enum-told .given .1, eq-eqb _ _ (c .before .before .if1 .left)) (about-if (eqb (a .node .clock .0 + 1) (a .plan .guard .0)))
 
--- src/looking.rt:43:1
 returns-3 : tie.Need-returns-3
 unfolding modeAfter
 returns-3 c = rw (c .enum-told2 .given .1)
 
--- src/looking.rt:43:1
 returns-4 : tie.Need-returns-4
 unfolding modeAfter
 returns-4 c =
