@@ -18,6 +18,19 @@ use Rattle.run.specs.State.{freshRun, isAbout, inRange, outOfStep, apartOf}
 use Rattle.run.specs.Moves.{delayed, ticked, sent}
 use Rattle.run.specs.Steps.{stepTested, stepOf, apartTest}
 use Rattle.run.specs.Reckoning.{reckonedTested, reckonedOf}
+use Rattle.rules.specs.declared.Rule.{Rule}
+use Rattle.rules.specs.declared.Judged.{Judged}
+use Rattle.shown.specs.declared.Place.{Place}
+use Rattle.shown.specs.declared.Parts.{Parts}
+use Rattle.shown.specs.declared.Given.{Given}
+use Rattle.shown.specs.Parts.{partsFor}
+use Rattle.shown.specs.Shown.{freshPlace, givenBy, givenOf}
+use Rattle.lines.specs.declared.Wrote.{Wrote}
+use Rattle.lines.specs.declared.Reading.{Reading}
+use Rattle.lines.specs.Text.{wroteOf, bufferOf}
+use Rattle.lines.specs.Out.{judgedText, stepText, answerText, outText, refusedLine}
+use Rattle.lines.specs.In.{lineOf}
+use Rattle.lines.specs.Reading.{readingAfter, lineRead}
 use Rattle.demands.specs.Promises.{OneAnswer, OneLeft}
 
 -- a promise that is an equation
@@ -111,3 +124,47 @@ step-in-place P r s = equations (stepOf P r s .answer) (stepOf P r s .run)
 
 pub step-at-desk : (P : Plan) (r : Run) (s : Step) → OneAnswer (λ a. a ≡ stepOf P r s)
 step-at-desk P r s = equation (stepOf P r s)
+
+-- shown
+
+pub fresh-place : OneAnswer (λ r. r ≡ freshPlace)
+fresh-place = equation freshPlace
+
+pub next-shown : (P : Plan) (q : Place) → OneAnswer (λ r. r ≡ givenOf P q)
+next-shown P q = equation (givenOf P q)
+
+pub parts-tested : (P : Plan) (rule : Rule) → OneAnswer (λ r. r ≡ partsFor P rule)
+parts-tested P rule = equation (partsFor P rule)
+
+pub given-tested : (P : Plan) (c : Parts) (q : Place) → OneAnswer (λ (r : Given). (r ≡ givenBy P c q) × (inRange P (r .place .run) ≡ true))
+given-tested P c q a b p r = p .0 ∙ sym (r .0)
+
+-- lines
+
+pub read-line : (line : List ℕ) → OneAnswer (λ r. r ≡ lineOf line)
+read-line line = equation (lineOf line)
+
+pub reading-byte : (reading : Reading) (byte : ℕ) → OneAnswer (λ r. r ≡ readingAfter reading byte)
+reading-byte reading byte = equation (readingAfter reading byte)
+
+pub reading-end : (reading : Reading) → OneAnswer (λ r. r ≡ lineRead reading)
+reading-end reading = equation (lineRead reading)
+
+-- a writer of a text into a lent buffer: write_judged with 256 bytes of room; write_step, write_answer, write_refused and write_out with 32
+writes : (room : ℕ) (buffer : List ℕ) (at : ℕ) (text : List ℕ) → OneLeft (λ (r : Wrote) (after : List ℕ). (r ≡ wroteOf room buffer at text) × (after ≡ bufferOf room buffer at text))
+writes room buffer at text = equations (wroteOf room buffer at text) (bufferOf room buffer at text)
+
+pub write-judged : (buffer : List ℕ) (at N : ℕ) (j : Judged) → OneLeft (λ (r : Wrote) (after : List ℕ). (r ≡ wroteOf 256 buffer at (judgedText N j)) × (after ≡ bufferOf 256 buffer at (judgedText N j)))
+write-judged buffer at N j = writes 256 buffer at (judgedText N j)
+
+pub write-step : (buffer : List ℕ) (at : ℕ) (s : Step) → OneLeft (λ (r : Wrote) (after : List ℕ). (r ≡ wroteOf 32 buffer at (stepText s)) × (after ≡ bufferOf 32 buffer at (stepText s)))
+write-step buffer at s = writes 32 buffer at (stepText s)
+
+pub write-answer : (buffer : List ℕ) (at : ℕ) (a : Answer) → OneLeft (λ (r : Wrote) (after : List ℕ). (r ≡ wroteOf 32 buffer at (answerText a)) × (after ≡ bufferOf 32 buffer at (answerText a)))
+write-answer buffer at a = writes 32 buffer at (answerText a)
+
+pub write-out : (buffer : List ℕ) (at a b : ℕ) → OneLeft (λ (r : Wrote) (after : List ℕ). (r ≡ wroteOf 32 buffer at (outText a b)) × (after ≡ bufferOf 32 buffer at (outText a b)))
+write-out buffer at a b = writes 32 buffer at (outText a b)
+
+pub write-refused : (buffer : List ℕ) (at n : ℕ) → OneLeft (λ (r : Wrote) (after : List ℕ). (r ≡ wroteOf 32 buffer at (refusedLine n)) × (after ≡ bufferOf 32 buffer at (refusedLine n)))
+write-refused buffer at n = writes 32 buffer at (refusedLine n)
