@@ -10,7 +10,7 @@ use Rattle.plan.specs.Sending.{own, sends}
 abbrev pub slotBefore : (C s : ℕ) → ℕ
 slotBefore C s = (s + C - 1) % C
 
--- The nearest slot at s or before it that passes, while `left` slots are left in a frame of C.
+-- The nearest slot at s or before it that passes, of the `left` slots left in a frame of C; the slot before these where none does.
 unfoldable pub nearest : (ℕ → Bool) → (C left s : ℕ) → ℕ
 nearest f C zero s = s
 nearest f C (suc left) s = elim (f s) [ true ↦ s | false ↦ nearest f C left (slotBefore C s) ]
@@ -31,6 +31,6 @@ gapFor P i = gapAt P (own P i)
 unfoldable pub gapOf : Plan → ℕ
 gapOf P = largestBelow (P .nodes .0) (gapFor P)
 
--- The number of slots from p to the next sending slot after it, forward round the frame.
+-- The number of slots from p to the next sending slot after it, forward round the frame; C where no other sends. No promise uses it.
 unfoldable pub slotsToNext : Plan → ℕ → ℕ
 slotsToNext P p = firstFrom (λ d. sends P ((p + d) % P .frame .0)) (P .frame .0 - 1) 1

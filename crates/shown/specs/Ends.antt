@@ -22,7 +22,7 @@ ticksIn (Delay d ∷ steps) = ticksIn steps
 ticksIn (TickOf i ∷ steps) = suc (ticksIn steps)
 ticksIn (SendOf i ∷ steps) = ticksIn steps
 
--- The shown run has `count` steps. Each is legal; they lead to where the run is out of step; there it is finished,
+-- The shown run is over within `count` steps. Each is legal; they lead to where the run is out of step; there it is finished,
 -- and asked for more it gives no more. At most 2·N·C·k0 of the steps are ticks.
 pub record Ends (P : Plan) : Type 0 where
   pub count : ℕ

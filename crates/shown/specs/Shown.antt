@@ -44,7 +44,7 @@ isDue P c q i = eqb (node (q .run) i .time .0) (dueTime P c (q .mark) i)
 unfoldable pub pastDue : Plan → Parts → Place → Bool
 pastDue P c q = anyBelow (P .nodes .0) (λ i. ltb (dueTime P c (q .mark) i) (node (q .run) i .time .0))
 
--- A tick now would make node i about to send.
+-- After a tick now node i would be about to send.
 abbrev pub turns : Plan → Run → ℕ → Bool
 turns P r i = isAbout (modeAfter P (own P i) (node r i .clock .0) (node r i .slot .0) (node r i .mode))
 
