@@ -1,4 +1,4 @@
--- The facts of the frame, as the crates above cite them. Proved in Frame.antt and Back.antt.
+-- The facts of the frame, as the crates above cite them. Proved in Back.antt (predecessors), Forth.antt (the next sending slot) and Bounds.antt (M).
 use Prim.Native.Nat.{ℕ, _≤_, _<_}
 use mathlib.Core.Path.{_≡_}
 use mathlib.Core.Logic.{_≢_}

@@ -1,5 +1,6 @@
 // Document 01's numbers to check, and the columns with three or four nodes of the source's Tables 2, 4 and 5, run and
-// compared: a line for each, which ends `same` or `DIFFERS`.
+// compared: a line for each, which ends `same` or `DIFFERS`. Three columns of Table 4 differ, as document 01 says: two have
+// g + t + 2 above k0, and for the third a smaller pair is accepted too.
 use libc::STDOUT_FILENO;
 use plan::Node;
 use plan::Plan;
