@@ -1,3 +1,4 @@
 pub mod Puts
 pub mod Decimals
 pub mod ByBytes
+pub mod ReadsBack
