@@ -9,7 +9,7 @@ use lib.Dec.{ltb, leb}
 use Rattle.laws.proofs.Bools.{and-both}
 use Rattle.run.specs.declared.Step.{Step}
 use Rattle.run.specs.declared.Step.the-variants.{Delay, TickOf, SendOf}
-use Rattle.lines.specs.Text.{digitsWithin, decimal}
+use Rattle.text.specs.Text.{digitsWithin, decimal}
 use Rattle.lines.specs.Out.{stepText}
 use Rattle.lines.specs.In.{isDigit, isLetter, stepBy, lineOf}
 use Rattle.lines.specs.Reading.{withDigit, readingAfter, lineRead}

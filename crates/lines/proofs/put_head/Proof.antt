@@ -1,25 +1,19 @@
-use Rattle.lines.proofs.Puts.{_then_}
+use Rattle.text.proofs.Puts.{_then_}
 use borrow.Author.Needs.{needs}
 use Rattle.lines.proofs.put_head.Statement.{statement}
 use Rattle.lines.proofs.put_head.Tie as tie
 
-slice-aggregate-put-word : tie.Need-slice-aggregate-put-word
-slice-aggregate-put-word c = search needs
+slice-aggregate-put-numbered : tie.Need-slice-aggregate-put-numbered
+slice-aggregate-put-numbered c = search needs
 
-put-word-requires : tie.Need-put-word-requires
-put-word-requires c κs = search needs
+put-numbered-requires : tie.Need-put-numbered-requires
+put-numbered-requires c κs = search needs
 
-put-number-requires : tie.Need-put-number-requires
-put-number-requires c κs = search needs
+slice-aggregate-put-numbered-2 : tie.Need-slice-aggregate-put-numbered-2
+slice-aggregate-put-numbered-2 c = search needs
 
-slice-aggregate-put-word-2 : tie.Need-slice-aggregate-put-word-2
-slice-aggregate-put-word-2 c = search needs
-
-put-word-requires-2 : tie.Need-put-word-requires-2
-put-word-requires-2 c κs = search needs
-
-put-number-requires-2 : tie.Need-put-number-requires-2
-put-number-requires-2 c κs = search needs
+put-numbered-requires-2 : tie.Need-put-numbered-requires-2
+put-numbered-requires-2 c κs = search needs
 
 put-byte-requires : tie.Need-put-byte-requires
 put-byte-requires c κs = search needs
@@ -29,23 +23,19 @@ same-length c = search needs
 
 returns : tie.Need-returns
 returns c =
-    let at₅ = c .before .before in
-    let at₄ = at₅ .before .before .before .before in
-    let at₃ = at₄ .before .before .before .before in
-    let at₂ = at₃ .before .before .before .before .before in
-    let at₁ = at₂ .before .before .before .before in
-    at₁ .put-word .ensures then at₂ .put-number .ensures then at₃ .put-word2 .ensures then at₄ .put-number2 .ensures then at₅ .put-byte .ensures
+    let at₃ = c .before .before in
+    let at₂ = at₃ .before .before .before .before in
+    let at₁ = at₂ .before .before .before .before .before in
+    at₁ .put-numbered .ensures then at₂ .put-numbered2 .ensures then at₃ .put-byte .ensures
 
 pub put-head-spec : {M : Type 1} → statement M
 put-head-spec =
     tie.close
     (tie.spec
-    slice-aggregate-put-word
-    put-word-requires
-    put-number-requires
-    slice-aggregate-put-word-2
-    put-word-requires-2
-    put-number-requires-2
+    slice-aggregate-put-numbered
+    put-numbered-requires
+    slice-aggregate-put-numbered-2
+    put-numbered-requires-2
     put-byte-requires
     same-length
     returns)

@@ -1,6 +1,6 @@
 use native.Mathlib.Omega.{arith}
 use Rattle.lines.specs.Out.{judgedText}
-use Rattle.lines.proofs.Puts.{put-more}
+use Rattle.text.proofs.Puts.{put-more}
 use borrow.Author.Needs.{needs}
 use Rattle.lines.proofs.put_judged.Statement.{statement}
 use Rattle.lines.proofs.put_judged.Tie as tie
@@ -29,7 +29,7 @@ same-length-2 c = search needs
 
 returns-2 : tie.Need-returns-2
 unfolding judgedText
-returns-2 c = rw (c .before .before .before .before .before .judged2 .given .1) (put-more 219 (omega arith) (c .before .before .put-refused .ensures))
+returns-2 c = rw (c .before .before .before .before .before .judged2 .given .1) (put-more 254 (omega arith) (c .before .before .put-refused .ensures))
 
 pub put-judged-spec : {M : Type 1} → statement M
 put-judged-spec =

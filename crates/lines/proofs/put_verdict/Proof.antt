@@ -1,4 +1,4 @@
-use Rattle.lines.proofs.Puts.{_then_}
+use Rattle.text.proofs.Puts.{_then_}
 use borrow.Author.Needs.{needs}
 use Rattle.lines.proofs.put_verdict.Statement.{statement}
 use Rattle.lines.proofs.put_verdict.Tie as tie

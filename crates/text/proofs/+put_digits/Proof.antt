@@ -1,18 +1,18 @@
 use mathlib.Core.Path.{ap}
 use lib.ListN.{length}
 use native.Mathlib.Omega.{arith}
-use Rattle.lines.proofs.Decimals.{decimal-one, decimal-more, length-more}
-use Rattle.lines.proofs.Puts.{put-as, _then_}
+use Rattle.text.proofs.Decimals.{decimal-one, decimal-more, length-more}
+use Rattle.text.proofs.Puts.{put-as, _then_}
 use borrow.Author.Needs.{needs}
 use Prim.Native.Nat.{ℕ, _<_}
 use borrow.Fn.Kinds.{In}
 use borrow.Fn.PlainCycle.{Measures, is, falls, and}
-use Rattle.lines.proofs.put_digits.Reads as put-digits
-use Rattle.lines.proofs.put_digits.Kinds as put-digits-kinds
-use Rattle.lines.proofs.+put_digits.Lts-put_digits as put-digits-lts
-use Rattle.lines.proofs.put_byte.Reads as put-byte-reads
-use Rattle.lines.proofs.+put_digits.{statement}
-use Rattle.lines.proofs.+put_digits.Tie.{close}
+use Rattle.text.proofs.put_digits.Reads as put-digits
+use Rattle.text.proofs.put_digits.Kinds as put-digits-kinds
+use Rattle.text.proofs.+put_digits.Lts-put_digits as put-digits-lts
+use Rattle.text.proofs.put_byte.Reads as put-byte-reads
+use Rattle.text.proofs.+put_digits.{statement}
+use Rattle.text.proofs.+put_digits.Tie.{close}
 
 abbrev μ-put-digits : Measures 1 put-digits-kinds.ps ℕ
 μ-put-digits κs a = a .1 .1 .0
