@@ -1,22 +1,20 @@
 -- A line read byte by byte is the line read as a whole. After each byte the reading says what is known of the line: how far it is a
 -- step line (its letter, blank, number, newline), or that it is none.
-use Prim.Native.Nat.{ℕ, zero, suc, _+_, _*_, _-_, _≤_, _<_}
-use mathlib.Core.Path.{_≡_, refl, sym, ap, _∙_}
+use Prim.Native.Nat.{ℕ, zero, suc, _+_, _-_, _≤_, _<_}
+use mathlib.Core.Path.{_≡_, refl, ap, _∙_}
 use mathlib.Core.Bool.{Bool, true, false, cond, not, _&&_, _||_}
-use mathlib.Core.List.{List, [], _∷_, foldl}
-use native.Mathlib.Nat.{not-suc-le-zero}
+use mathlib.Core.List.{List, foldl}
 use native.Mathlib.Decide.{ℕ-discrete}
 use native.Mathlib.Omega.{arith}
-use borrow.Author.Tests.{leb-true, leb-false, eqb-true, eqb-false, le-leb, eq-eqb, ne-eqb, not-true, not-false}
+use borrow.Author.Tests.{leb-true, eqb-true, eqb-false, le-leb, eq-eqb, ne-eqb}
 use lib.Dec.{eqb, leb}
 use lib.ListN.{length, drop}
 use lib.Seq.{drop-cons, drop-length}
-use Rattle.laws.specs.Below.{allBelow}
-use Rattle.laws.proofs.Bools.{clash, and-true-left, and-true-right, and-both, or-either, Either, first-holds, second-holds, cond-by, true-not-false}
+use Rattle.laws.proofs.Bools.{clash, and-true-left, and-true-right, or-either, Either, first-holds, second-holds, cond-by, true-not-false}
 use Rattle.laws.proofs.Belows.{all-at, all-ever}
 use Rattle.plan.specs.Refusals.{line-wrong}
 use Rattle.lines.specs.In.{byteOf, isDigit, isLetter, spelled, digitCount, lineShaped, stepBy, lineOf}
-use Rattle.lines.specs.Reading.{withDigit, numberAfter, readingAfter, readingOf, lineRead}
+use Rattle.lines.specs.Reading.{withDigit, readingAfter, readingOf, lineRead}
 use Rattle.lines.specs.declared.Line.the-variants.{Asks, Refused}
 use Rattle.lines.specs.declared.Reading.{Reading}
 use Rattle.lines.specs.declared.Reading.the-variants.{Nothing, Letter, Blank, Number, Whole, Wrong}
@@ -82,9 +80,9 @@ test-good line h =
         some = omega arith;
         digits = all-at _ _ (four .1);
         first = λ l e. first (or-either _ _ (five .1)) l e;
-        fits = leb-true _ _ (six .1)
+        fits = leb-true _ _ (six .1);
       };
-      newline = eqb-true _ 10 (three .1)
+      newline = eqb-true _ 10 (three .1);
     }
   where
     first : Either (eqb (digitCount line) 1) (not (eqb (byteOf line 2) 48)) → 1 < digitCount line → byteOf line 2 ≡ 48 → ⊥
@@ -127,7 +125,7 @@ begun-one line letter blank t = record {
   some = omega arith;
   digits = λ j l. let q : 2 + j ≡ 2 = omega arith in rw q t;
   first = λ l. omega arith;
-  fits = omega (arith, digit-high (byteOf line 2) t)
+  fits = omega (arith, digit-high (byteOf line 2) t);
 }
 
 begun-more : (line : List ℕ) (k : ℕ) → Begun line k → (isDigit (byteOf line (2 + k)) && not (eqb (spelled line k) 0) && leb (withDigit (spelled line k) (byteOf line (2 + k))) 4294967295) ≡ true → Begun line (suc k)
@@ -141,7 +139,7 @@ begun-more line k b t =
       some = omega arith;
       digits = λ j l. digits (one .0) j l (ℕ-discrete j k);
       first = λ l e. first (true-not-false _ (one .1)) e (ℕ-discrete k 1);
-      fits = leb-true _ _ (two .1)
+      fits = leb-true _ _ (two .1);
     }
   where
     digits : isDigit (byteOf line (2 + k)) ≡ true → (j : ℕ) → j < suc k → Dec (j ≡ k) → isDigit (byteOf line (2 + j)) ≡ true

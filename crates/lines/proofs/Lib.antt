@@ -1,3 +1,3 @@
-pub mod Puts
-pub mod Decimals
+pub mod Written
 pub mod ByBytes
+pub mod ReadsBack

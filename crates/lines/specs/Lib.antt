@@ -1,4 +1,4 @@
-pub mod Text
+pub mod Written
 pub mod Out
 pub mod In
 pub mod Reading

@@ -1,8 +1,7 @@
 -- The lines that the programs write, each whole with its newline.
 use Prim.Native.Nat.{ℕ}
-use mathlib.Core.Bool.{Bool, cond}
-use mathlib.Core.List.{List, [], _∷_, _++_}
-use Rattle.plan.specs.declared.Plan.{Plan}
+use mathlib.Core.Bool.{cond}
+use mathlib.Core.List.{List, _++_}
 use Rattle.rules.specs.declared.Rule.{Rule}
 use Rattle.rules.specs.declared.Rule.the-variants.{One, Two, Three}
 use Rattle.rules.specs.declared.Sides.{Sides}
@@ -16,7 +15,7 @@ use Rattle.run.specs.declared.Step.{Step}
 use Rattle.run.specs.declared.Step.the-variants.{Delay, TickOf, SendOf}
 use Rattle.run.specs.declared.Answer.{Answer}
 use Rattle.run.specs.declared.Answer.the-variants as answer
-use Rattle.lines.specs.Text.{bytes, decimal}
+use Rattle.text.specs.Text.{bytes, numbered}
 
 -- A rule's number.
 abbrev pub ruleNumber : Rule → ℕ
@@ -26,23 +25,17 @@ ruleNumber Three = 3
 
 -- Line 1: mark, version, N, M.
 abbrev pub headLine : (N M : ℕ) → List ℕ
-headLine N M = bytes "CSP 1 nodes " ++ decimal N ++ bytes " gap " ++ decimal M ++ bytes "\n"
+headLine N M = numbered "CSP 1 nodes " N ++ numbered " gap " M ++ bytes "\n"
 
 -- A rule line: number, left side, right side, outcome.
 abbrev pub ruleLine : Rule → Sides → List ℕ
 ruleLine rule s =
-    bytes "rule "
-    ++ decimal (ruleNumber rule)
-    ++ bytes " "
-    ++ decimal (s .left)
-    ++ bytes " "
-    ++ decimal (s .right)
-    ++ cond (holds s) (bytes " holds\n") (bytes " fails\n")
+    numbered "rule " (ruleNumber rule) ++ numbered " " (s .left) ++ numbered " " (s .right) ++ cond (holds s) (bytes " holds\n") (bytes " fails\n")
 
 -- The verdict line: in step, or the first rule that fails.
 abbrev pub outcomeLine : Outcome → List ℕ
 outcomeLine Accepted = bytes "verdict in step\n"
-outcomeLine (Fails rule) = bytes "verdict rule " ++ decimal (ruleNumber rule) ++ bytes "\n"
+outcomeLine (Fails rule) = numbered "verdict rule " (ruleNumber rule) ++ bytes "\n"
 
 -- The five lines of a verdict of a plan with N nodes.
 abbrev pub verdictLines : ℕ → Verdict → List ℕ
@@ -51,7 +44,7 @@ verdictLines N v =
 
 -- The one line of a refusal.
 abbrev pub refusedLine : ℕ → List ℕ
-refusedLine n = bytes "refused " ++ decimal n ++ bytes "\n"
+refusedLine n = numbered "refused " n ++ bytes "\n"
 
 -- What the judging program writes of a plan before any shown run.
 unfoldable pub judgedText : ℕ → Judged → List ℕ
@@ -60,9 +53,9 @@ judgedText N (Refused n) = refusedLine n
 
 -- A step line: D with the length of a delay, T and S with the node.
 unfoldable pub stepText : Step → List ℕ
-stepText (Delay d) = bytes "D " ++ decimal (d .0) ++ bytes "\n"
-stepText (TickOf i) = bytes "T " ++ decimal (i .0) ++ bytes "\n"
-stepText (SendOf i) = bytes "S " ++ decimal (i .0) ++ bytes "\n"
+stepText (Delay d) = numbered "D " (d .0) ++ bytes "\n"
+stepText (TickOf i) = numbered "T " (i .0) ++ bytes "\n"
+stepText (SendOf i) = numbered "S " (i .0) ++ bytes "\n"
 
 -- The stepping program's answer to a step.
 unfoldable pub answerText : Answer → List ℕ
@@ -71,4 +64,4 @@ answerText (answer.Refused n) = refusedLine n
 
 -- The last line of a shown run: the lowest sending node with a node elsewhere, and the lowest such node.
 unfoldable pub outText : (a b : ℕ) → List ℕ
-outText a b = bytes "out " ++ decimal a ++ bytes " " ++ decimal b ++ bytes "\n"
+outText a b = numbered "out " a ++ numbered " " b ++ bytes "\n"

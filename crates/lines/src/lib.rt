@@ -1,7 +1,7 @@
 // Text: step lines in; verdict, step, answer and `out` lines out.
+use plan::LINE_WRONG;
 use plan::Node;
 use plan::Time;
-use plan::LINE_WRONG;
 use rules::Judged;
 use rules::Outcome;
 use rules::Rule;
@@ -9,6 +9,11 @@ use rules::Sides;
 use rules::Verdict;
 use run::Answer;
 use run::Step;
+use text::put_byte;
+use text::put_number;
+use text::put_numbered;
+use text::put_wide;
+use text::put_word;
 ghost use mathlib.Core.Path.{_≡_};
 ghost use mathlib.Core.Bool.{cond};
 ghost use mathlib.Core.List.{[], _∷_, _++_};
@@ -16,7 +21,8 @@ ghost use Prim.Native.Nat.{_+_, _≤_};
 ghost use lib.ListN.{length};
 ghost use lib.Dec.{leb};
 ghost use Rattle.rules.specs.Rules.{holds};
-ghost use Rattle.lines.specs.Text.{bytes, decimal, Put, wroteOf, bufferOf};
+ghost use Rattle.text.specs.Text.{bytes, decimal, numbered, Put};
+ghost use Rattle.lines.specs.Written.{wroteOf, bufferOf};
 ghost use Rattle.lines.specs.In.{isDigit, isLetter, stepBy, lineOf};
 ghost use Rattle.lines.specs.Reading.{withDigit, numberAfter, readingAfter, lineRead};
 ghost use Rattle.lines.specs.Out.{
@@ -59,50 +65,6 @@ pub enum Wrote {
     NoRoom,
 }
 
-fn put_byte(out: &mut [u8], at: usize, byte: u8) -> usize
-    requires { ⌜ at + 1 ≤ length (now out) ⌝ }
-    ensures { λ r. ⌜ Put 1 (now (out .entry)) at (byte ∷ []) (now (out .exit)) r ⌝ }
-{
-    out[at] = byte;
-    at + 1
-}
-
-fn put_word(out: &mut [u8], at: usize, word: &[u8]) -> usize
-    requires { ⌜ at + length (now word) ≤ length (now out) ⌝ }
-    ensures { λ r. ⌜ Put (length (now (word .entry))) (now (out .entry)) at (now (word .entry)) (now (out .exit)) r ⌝ }
-{
-    for i in 0..word.len() {
-        out[at + i] = word[i];
-    }
-    at + word.len()
-}
-
-// A number in decimal: its tenth, then its last digit.
-fn put_digits(out: &mut [u8], at: usize, number: u64) -> usize
-    requires { ⌜ at + length (decimal number) ≤ length (now out) ⌝ }
-    ensures { λ r. ⌜ Put (length (decimal number)) (now (out .entry)) at (decimal number) (now (out .exit)) r ⌝ }
-{
-    if number < 10 {
-        return put_byte(out, at, 48 + number as u8);
-    }
-    let last = put_digits(out, at, number / 10);
-    put_byte(out, last, 48 + (number % 10) as u8)
-}
-
-fn put_number(out: &mut [u8], at: usize, number: u32) -> usize
-    requires { ⌜ at + 10 ≤ length (now out) ⌝ }
-    ensures { λ r. ⌜ Put 10 (now (out .entry)) at (decimal number) (now (out .exit)) r ⌝ }
-{
-    put_digits(out, at, number as u64)
-}
-
-fn put_side(out: &mut [u8], at: usize, side: u64) -> usize
-    requires { ⌜ at + 20 ≤ length (now out) ⌝ }
-    ensures { λ r. ⌜ Put 20 (now (out .entry)) at (decimal side) (now (out .exit)) r ⌝ }
-{
-    put_digits(out, at, side)
-}
-
 // Whether `room` bytes are left from a place on.
 fn has_room(length: usize, at: usize, room: usize) -> bool
     ensures { λ r. ⌜ r ≡ leb (at + room) length ⌝ }
@@ -117,21 +79,27 @@ fn put_head(out: &mut [u8], at: usize, nodes: u32, gap: u32) -> usize
     requires { ⌜ at + 38 ≤ length (now out) ⌝ }
     ensures { λ r. ⌜ Put 38 (now (out .entry)) at (headLine nodes gap) (now (out .exit)) r ⌝ }
 {
-    let first = put_word(out, at, b"CSP 1 nodes ");
-    let second = put_number(out, first, nodes);
-    let third = put_word(out, second, b" gap ");
-    let fourth = put_number(out, third, gap);
-    put_byte(out, fourth, b'\n')
+    let first = put_numbered(out, at, b"CSP 1 nodes ", nodes);
+    let second = put_numbered(out, first, b" gap ", gap);
+    put_byte(out, second, b'\n')
 }
 
-fn rule_digit(rule: Rule) -> u8
-    ensures { λ r. ⌜ r ∷ [] ≡ decimal (ruleNumber rule) ⌝ }
+fn rule_number(rule: Rule) -> u32
+    ensures { λ r. ⌜ r ≡ ruleNumber rule ⌝ }
 {
     match rule {
-        Rule::One => b'1',
-        Rule::Two => b'2',
-        Rule::Three => b'3',
+        Rule::One => 1,
+        Rule::Two => 2,
+        Rule::Three => 3,
     }
+}
+
+fn put_side(out: &mut [u8], at: usize, side: u64) -> usize
+    requires { ⌜ at + 21 ≤ length (now out) ⌝ }
+    ensures { λ r. ⌜ Put 21 (now (out .entry)) at (numbered " " side) (now (out .exit)) r ⌝ }
+{
+    let first = put_byte(out, at, b' ');
+    put_wide(out, first, side)
 }
 
 fn put_holds(out: &mut [u8], at: usize, sides: Sides) -> usize
@@ -145,35 +113,31 @@ fn put_holds(out: &mut [u8], at: usize, sides: Sides) -> usize
 }
 
 fn put_rule(out: &mut [u8], at: usize, rule: Rule, sides: Sides) -> usize
-    requires { ⌜ at + 55 ≤ length (now out) ⌝ }
-    ensures { λ r. ⌜ Put 55 (now (out .entry)) at (ruleLine rule sides) (now (out .exit)) r ⌝ }
+    requires { ⌜ at + 64 ≤ length (now out) ⌝ }
+    ensures { λ r. ⌜ Put 64 (now (out .entry)) at (ruleLine rule sides) (now (out .exit)) r ⌝ }
 {
-    let first = put_word(out, at, b"rule ");
-    let second = put_byte(out, first, rule_digit(rule));
-    let third = put_byte(out, second, b' ');
-    let fourth = put_side(out, third, sides.left);
-    let fifth = put_byte(out, fourth, b' ');
-    let sixth = put_side(out, fifth, sides.right);
-    put_holds(out, sixth, sides)
+    let first = put_numbered(out, at, b"rule ", rule_number(rule));
+    let second = put_side(out, first, sides.left);
+    let third = put_side(out, second, sides.right);
+    put_holds(out, third, sides)
 }
 
 fn put_outcome(out: &mut [u8], at: usize, outcome: Outcome) -> usize
-    requires { ⌜ at + 16 ≤ length (now out) ⌝ }
-    ensures { λ r. ⌜ Put 16 (now (out .entry)) at (outcomeLine outcome) (now (out .exit)) r ⌝ }
+    requires { ⌜ at + 24 ≤ length (now out) ⌝ }
+    ensures { λ r. ⌜ Put 24 (now (out .entry)) at (outcomeLine outcome) (now (out .exit)) r ⌝ }
 {
     match outcome {
         Outcome::Accepted => put_word(out, at, b"verdict in step\n"),
         Outcome::Fails(rule) => {
-            let first = put_word(out, at, b"verdict rule ");
-            let second = put_byte(out, first, rule_digit(rule));
-            put_byte(out, second, b'\n')
+            let first = put_numbered(out, at, b"verdict rule ", rule_number(rule));
+            put_byte(out, first, b'\n')
         }
     }
 }
 
 fn put_verdict(out: &mut [u8], at: usize, nodes: u32, verdict: Verdict) -> usize
-    requires { ⌜ at + 219 ≤ length (now out) ⌝ }
-    ensures { λ r. ⌜ Put 219 (now (out .entry)) at (verdictLines nodes verdict) (now (out .exit)) r ⌝ }
+    requires { ⌜ at + 254 ≤ length (now out) ⌝ }
+    ensures { λ r. ⌜ Put 254 (now (out .entry)) at (verdictLines nodes verdict) (now (out .exit)) r ⌝ }
 {
     let first = put_head(out, at, nodes, verdict.gap.0 as u32);
     let second = put_rule(out, first, Rule::One, verdict.one);
@@ -187,9 +151,8 @@ fn put_refused(out: &mut [u8], at: usize, number: u8) -> usize
     requires { ⌜ at + 19 ≤ length (now out) ⌝ }
     ensures { λ r. ⌜ Put 19 (now (out .entry)) at (refusedLine number) (now (out .exit)) r ⌝ }
 {
-    let first = put_word(out, at, b"refused ");
-    let second = put_number(out, first, number as u32);
-    put_byte(out, second, b'\n')
+    let first = put_numbered(out, at, b"refused ", number as u32);
+    put_byte(out, first, b'\n')
 }
 
 // A step line: the letter, a blank, the number, a newline.
@@ -225,8 +188,8 @@ fn put_answer(out: &mut [u8], at: usize, answer: Answer) -> usize
 }
 
 fn put_judged(out: &mut [u8], at: usize, nodes: Node, judged: Judged) -> usize
-    requires { ⌜ at + 219 ≤ length (now out) ⌝ }
-    ensures { λ r. ⌜ Put 219 (now (out .entry)) at (judgedText (nodes .0) judged) (now (out .exit)) r ⌝ }
+    requires { ⌜ at + 254 ≤ length (now out) ⌝ }
+    ensures { λ r. ⌜ Put 254 (now (out .entry)) at (judgedText (nodes .0) judged) (now (out .exit)) r ⌝ }
 {
     match judged {
         Judged::Gives(verdict) => put_verdict(out, at, nodes.0, verdict),
@@ -238,11 +201,9 @@ fn put_out(out: &mut [u8], at: usize, a: u32, b: u32) -> usize
     requires { ⌜ at + 26 ≤ length (now out) ⌝ }
     ensures { λ r. ⌜ Put 26 (now (out .entry)) at (outText a b) (now (out .exit)) r ⌝ }
 {
-    let first = put_word(out, at, b"out ");
-    let second = put_number(out, first, a);
-    let third = put_byte(out, second, b' ');
-    let fourth = put_number(out, third, b);
-    put_byte(out, fourth, b'\n')
+    let first = put_numbered(out, at, b"out ", a);
+    let second = put_numbered(out, first, b" ", b);
+    put_byte(out, second, b'\n')
 }
 
 // The five lines of a verdict, or the one of a refusal.

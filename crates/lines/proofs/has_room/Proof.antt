@@ -4,11 +4,8 @@ use mathlib.Core.Bool.{Bool, true, false}
 use native.Mathlib.Omega.{arith}
 use lib.Dec.{leb}
 use borrow.Author.Tests.{lt-leb, le-leb, leb-true, leb-false}
-use borrow.Author.Needs.{needs}
 use Rattle.lines.proofs.has_room.Statement.{statement}
 use Rattle.lines.proofs.has_room.Tie as tie
-use Rattle.lines.proofs.has_room.Reads as reads
-use Rattle.lines.proofs.has_room.Lts as lts
 
 -- room from a place on is a place that leaves the room
 go : (at length room : ℕ) → room ≤ length → leb at (length - room) ≡ leb (at + room) length
@@ -21,7 +18,6 @@ go at length room h = by (leb at (length - room)) refl
 returns : tie.Need-returns
 returns c = let a = c .before .args in sym (lt-leb (a .at + a .room) (a .length) (omega arith))
 
--- src/lib.rt:77:1
 returns-2 : tie.Need-returns-2
 returns-2 c =
     let a = c .before .args in

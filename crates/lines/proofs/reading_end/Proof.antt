@@ -11,24 +11,17 @@ use Rattle.lines.proofs.Reading.{the-type}
 use borrow.Author.Needs.{needs}
 use Rattle.lines.proofs.reading_end.Statement.{statement}
 use Rattle.lines.proofs.reading_end.Tie as tie
-use Rattle.lines.proofs.reading_end.Reads as reads
-use Rattle.lines.proofs.reading_end.Lts as lts
-use Rattle.lines.proofs.step_by.Reads as step-by-reads
 
--- src/lib.rt:384:24
 enum-known-reading : tie.Need-enum-known-reading
 enum-known-reading c = search needs
 
--- src/lib.rt:384:54
 step-by-requires : tie.Need-step-by-requires
 step-by-requires c κs = search needs
 
--- src/lib.rt:380:1
 returns : tie.Need-returns
 unfolding lineRead
 returns c = rw (c .before .before .reading .given .1, c .step-by .ensures)
 
--- src/lib.rt:380:1
 -- the variants but the whole line
 others : (reading : Reading) → OneOf (0 ∷ 1 ∷ 2 ∷ 3 ∷ 5 ∷ []) (tagOf the-type reading) → Refused line-wrong ≡ lineRead reading
 unfolding lineRead

@@ -1,15 +1,13 @@
--- Text as a list of bytes: words, numbers, and a text put into a lent buffer.
+-- Text as a list of bytes: words and numbers, and a text put into a lent buffer.
 use Prim.Native.Nat.{ℕ, zero, suc, _+_, _/_, _%_, _≤_}
-use mathlib.Core.Path.{_≡_}
 use Prim.Native.Char.{code}
 use Prim.Native.String.{String, len, charAt}
-use mathlib.Core.Bool.{Bool, cond}
+use mathlib.Core.Path.{_≡_}
+use mathlib.Core.Bool.{cond}
 use mathlib.Core.List.{List, [], _∷_, _++_}
 use lib.ListN.{length}
 use lib.Seq.{sets}
-use lib.Dec.{leb, ltb}
-use Rattle.lines.specs.declared.Wrote.{Wrote}
-use Rattle.lines.specs.declared.Wrote.the-variants.{To, NoRoom}
+use lib.Dec.{ltb}
 
 -- The bytes of a word from place i on, `left` of them.
 abbrev pub bytesFrom : String → (left i : ℕ) → List ℕ
@@ -29,20 +27,13 @@ digitsWithin (suc places) n = cond (ltb n 10) ((48 + n) ∷ []) (digitsWithin pl
 abbrev pub decimal : ℕ → List ℕ
 decimal n = digitsWithin 20 n
 
+-- A word, and a number after it.
+abbrev pub numbered : String → ℕ → List ℕ
+numbered word n = bytes word ++ decimal n
+
 -- What putting a text at a place of a buffer leaves: the text from there on, every other byte as it was, and the place after the text,
 -- at most `room` bytes on.
 pub record Put (room : ℕ) (before : List ℕ) (at : ℕ) (text after : List ℕ) (end : ℕ) : Type 0 where
   pub holds : after ≡ sets before at text
   pub ends : end ≡ at + length text
   pub within : end ≤ at + room
-
--- A text is written at a place of a buffer where `room` bytes are left from there on; else nothing is.
-abbrev pub hasRoom : (room : ℕ) → List ℕ → ℕ → Bool
-hasRoom room buffer at = leb (at + room) (length buffer)
-
--- The answer, and what the buffer holds then: the text from its place on, every other byte as it was.
-unfoldable pub wroteOf : (room : ℕ) → List ℕ → ℕ → List ℕ → Wrote
-wroteOf room buffer at text = cond (hasRoom room buffer at) (To (at + length text)) NoRoom
-
-unfoldable pub bufferOf : (room : ℕ) → List ℕ → ℕ → List ℕ → List ℕ
-bufferOf room buffer at text = cond (hasRoom room buffer at) (sets buffer at text) buffer

@@ -1,9 +1,9 @@
 use native.Mathlib.Omega.{arith}
 use borrow.Author.Needs.{needs}
-use Rattle.lines.proofs.Decimals.{decimal-number}
-use Rattle.lines.proofs.Puts.{put-within}
-use Rattle.lines.proofs.put_number.Statement.{statement}
-use Rattle.lines.proofs.put_number.Tie as tie
+use Rattle.text.proofs.Decimals.{decimal-number}
+use Rattle.text.proofs.Puts.{put-within}
+use Rattle.text.proofs.put_number.Statement.{statement}
+use Rattle.text.proofs.put_number.Tie as tie
 
 put-digits-requires : tie.Need-put-digits-requires
 put-digits-requires c κs = omega (arith, decimal-number _ (c .before .before .fits .number .fits))

@@ -1,14 +1,14 @@
 -- A number in decimal: its last digit after the digits of its tenth, and at most as many digits as places.
-use Prim.Native.Nat.{ℕ, zero, suc, _+_, _*_, _/_, _%_, _^_, _≤_, _<_}
-use mathlib.Core.Path.{_≡_, refl, sym, ap, _∙_}
-use mathlib.Core.Bool.{Bool, true, false, cond}
+use Prim.Native.Nat.{ℕ, zero, suc, _+_, _/_, _%_, _^_, _≤_, _<_}
+use mathlib.Core.Path.{_≡_, sym, ap, _∙_}
+use mathlib.Core.Bool.{cond}
 use mathlib.Core.List.{List, [], _∷_, _++_}
 use native.Mathlib.Omega.{arith}
-use borrow.Author.Tests.{ltb-true, ltb-false, lt-ltb, le-ltb}
+use borrow.Author.Tests.{lt-ltb, le-ltb}
 use lib.ListN.{length, length-append}
 use lib.Dec.{ltb}
 use Rattle.laws.proofs.Bools.{cond-by}
-use Rattle.lines.specs.Text.{digitsWithin, decimal}
+use Rattle.text.specs.Text.{digitsWithin, decimal}
 
 -- a place more than a number needs makes no difference
 digits-more : (places n : ℕ) → n < 10 ^ suc places → digitsWithin (suc (suc places)) n ≡ digitsWithin (suc places) n
@@ -37,8 +37,8 @@ digits-few (suc places) (suc k) n h =
 pub decimal-number : (n : ℕ) → n < 2 ^ 32 → length (decimal n) ≤ 10
 decimal-number n h = digits-few 20 9 n (omega arith)
 
-pub decimal-side : (n : ℕ) → n < 2 ^ 64 → length (decimal n) ≤ 20
-decimal-side n h = digits-few 20 19 n (omega arith)
+pub decimal-wide : (n : ℕ) → n < 2 ^ 64 → length (decimal n) ≤ 20
+decimal-wide n h = digits-few 20 19 n (omega arith)
 
 -- the last digit is one more
 pub length-more : (n : ℕ) → 10 ≤ n → n < 10 ^ 20 → length (decimal n) ≡ length (decimal (n / 10)) + 1

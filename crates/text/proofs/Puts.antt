@@ -1,15 +1,13 @@
 -- Texts put into a buffer one after the other: what two puts in a row leave is what one put of both texts leaves.
-use Prim.Native.Nat.{ℕ, zero, suc, _+_, _≤_, _<_}
-use mathlib.Core.Path.{_≡_, refl, sym, ap, _∙_}
-use mathlib.Core.Bool.{true, false}
+use Prim.Native.Nat.{ℕ, suc, _+_, _≤_, _<_}
+use mathlib.Core.Path.{_≡_, sym, ap, _∙_}
 use mathlib.Core.List.{List, [], _∷_, _++_}
 use native.Mathlib.Nat.{add-zero}
 use native.Mathlib.Numerals.{add-one}
 use native.Mathlib.Omega.{arith}
 use lib.ListN.{length, getD, take, set, length-append}
 use lib.Seq.{sets, take-suc, length-take-le}
-use Rattle.lines.specs.Text.{Put, hasRoom, wroteOf, bufferOf}
-use Rattle.lines.specs.declared.Wrote.the-variants.{To, NoRoom}
+use Rattle.text.specs.Text.{Put}
 
 pub sets-both : (l : List ℕ) (at : ℕ) (xs ys : List ℕ) → sets l at (xs ++ ys) ≡ sets (sets l at xs) (at + length xs) ys
 sets-both l at [] ys = rw add-zero
@@ -20,10 +18,6 @@ pub sets-more : (l : List ℕ) (at n : ℕ) (word : List ℕ) → n < length wor
 sets-more l at n word h =
     let e : length (take n word) ≡ n = length-take-le n word (omega arith) in
     rw (add-one, take-suc word n 0 h, sets-both l at (take n word), e)
-
--- one byte
-pub put-byte : (l : List ℕ) (at b end : ℕ) → end ≡ at + 1 → Put 1 l at (b ∷ []) (set l at b) end
-put-byte l at b end e = record { holds = refl; ends = e; within = omega arith }
 
 -- one text after the other
 infixl 40 _then_
@@ -45,12 +39,3 @@ put-within n h p = record { holds = p .holds; ends = p .ends; within = omega (ar
 -- the same text under another name, its length the bound
 pub put-as : {m : ℕ} {l l′ : List ℕ} {at end : ℕ} {text text′ : List ℕ} → text′ ≡ text → Put m l at text l′ end → Put (length text′) l at text′ l′ end
 put-as {text′ = text′} e p = record { holds = p .holds ∙ rw e; ends = p .ends ∙ rw e; within = omega (arith, p .ends, ap length e) }
-
--- room for a text, and the text put; no room, and nothing put
-pub wrote : {m at end : ℕ} {l l′ text : List ℕ} (room : ℕ) → hasRoom room l at ≡ true → Put m l at text l′ end → (To end ≡ wroteOf room l at text) × (l′ ≡ bufferOf room l at text)
-unfolding wroteOf bufferOf
-wrote room h p = (rw (h, p .ends), p .holds ∙ rw h)
-
-pub no-room : (room at : ℕ) (l text : List ℕ) → hasRoom room l at ≡ false → (NoRoom ≡ wroteOf room l at text) × (l ≡ bufferOf room l at text)
-unfolding wroteOf bufferOf
-no-room room at l text h = (rw h, rw h)
