@@ -82,9 +82,9 @@ test-good line h =
         some = omega arith;
         digits = all-at _ _ (four .1);
         first = λ l e. first (or-either _ _ (five .1)) l e;
-        fits = leb-true _ _ (six .1)
+        fits = leb-true _ _ (six .1);
       };
-      newline = eqb-true _ 10 (three .1)
+      newline = eqb-true _ 10 (three .1);
     }
   where
     first : Either (eqb (digitCount line) 1) (not (eqb (byteOf line 2) 48)) → 1 < digitCount line → byteOf line 2 ≡ 48 → ⊥
@@ -127,7 +127,7 @@ begun-one line letter blank t = record {
   some = omega arith;
   digits = λ j l. let q : 2 + j ≡ 2 = omega arith in rw q t;
   first = λ l. omega arith;
-  fits = omega (arith, digit-high (byteOf line 2) t)
+  fits = omega (arith, digit-high (byteOf line 2) t);
 }
 
 begun-more : (line : List ℕ) (k : ℕ) → Begun line k → (isDigit (byteOf line (2 + k)) && not (eqb (spelled line k) 0) && leb (withDigit (spelled line k) (byteOf line (2 + k))) 4294967295) ≡ true → Begun line (suc k)
@@ -141,7 +141,7 @@ begun-more line k b t =
       some = omega arith;
       digits = λ j l. digits (one .0) j l (ℕ-discrete j k);
       first = λ l e. first (true-not-false _ (one .1)) e (ℕ-discrete k 1);
-      fits = leb-true _ _ (two .1)
+      fits = leb-true _ _ (two .1);
     }
   where
     digits : isDigit (byteOf line (2 + k)) ≡ true → (j : ℕ) → j < suc k → Dec (j ≡ k) → isDigit (byteOf line (2 + j)) ≡ true

@@ -1,7 +1,7 @@
 // Text: step lines in; verdict, step, answer and `out` lines out.
+use plan::LINE_WRONG;
 use plan::Node;
 use plan::Time;
-use plan::LINE_WRONG;
 use rules::Judged;
 use rules::Outcome;
 use rules::Rule;
