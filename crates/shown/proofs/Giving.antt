@@ -1,26 +1,23 @@
--- What is given out at a place: finished out of step or past due, else the next step, which is then legal.
+-- What is given out at a place: finished out of step, past due, or where the step is refused; else the next step.
 use Prim.Native.Nat.{ℕ}
 use mathlib.Core.Path.{_≡_, refl}
-use mathlib.Core.Bool.{Bool, true, false}
+use mathlib.Core.Bool.{Bool, true, false, cond, _||_}
 use native.Mathlib.Omega.{arith}
-use borrow.Author.Tests.{eq-eqb, ltb-false}
-use lib.Dec.{ltb}
+use borrow.Author.Tests.{eq-eqb}
+use lib.Dec.{eqb}
 use Rattle.laws.proofs.Bools.{or-true-left, or-true-right, or-neither}
-use Rattle.laws.proofs.Belows.{any-not}
 use Rattle.plan.specs.declared.Plan.{Plan}
-use Rattle.plan.specs.Tested.{Sound}
 use Rattle.run.specs.declared.Step.{Step}
-use Rattle.run.specs.State.{node, inRange, outOfStep}
-use Rattle.run.specs.Steps.{stepNumber}
-use Rattle.run.proofs.Legal.{StepLegal}
+use Rattle.run.specs.State.{outOfStep}
+use Rattle.run.specs.declared.Answer.the-variants as answer
+use Rattle.run.specs.Steps.{stepNumber, stepTested}
 use Rattle.shown.specs.declared.Place.{Place}
 use Rattle.shown.specs.declared.Parts.{Parts}
 use Rattle.shown.specs.declared.Next.the-variants.{Takes, Finished}
 use Rattle.shown.specs.declared.Seen.{Seen}
 use Rattle.shown.specs.declared.Looked.the-variants as looked
-use Rattle.shown.specs.Shown.{dueTime, pastDue, nextStep, placeAfter, stays, givenBy}
+use Rattle.shown.specs.Shown.{pastDue, nextStep, placeAfter, stays, givenBy}
 use Rattle.shown.specs.Looking.{seenFrom, lookedOf}
-use Rattle.shown.proofs.Play.{OnTime, next-move, move-legal}
 
 module _ (P : Plan) (c : Parts) (q : Place) where
   pub given-stops : outOfStep P (q .run) ≡ true → givenBy P c q ≡ stays Finished q
@@ -35,14 +32,16 @@ module _ (P : Plan) (c : Parts) (q : Place) where
   unfolding givenBy
   given-takes s e t d l = rw (or-neither (outOfStep P (q .run)) (pastDue P c q) t d, e, eq-eqb (stepNumber P (q .run) s) 0 l)
 
-  -- no time is past due
-  pub not-late : pastDue P c q ≡ false → OnTime P c q
-  unfolding pastDue
-  not-late h i l = ltb-false (dueTime P c (q .mark) i) (node (q .run) i .time .0) (any-not (P .nodes .0) (λ k. ltb (dueTime P c (q .mark) k) (node (q .run) k .time .0)) h i l)
-
-  -- so the next step is legal
-  pub next-legal : Sound P → inRange P (q .run) ≡ true → outOfStep P (q .run) ≡ false → pastDue P c q ≡ false → StepLegal P (q .run) (nextStep P c q)
-  next-legal o r t h = move-legal P c o q (nextStep P c q) r t (next-move P c o q (not-late h))
+  -- a step that is refused is none
+  pub given-refused : (s : Step) (n : ℕ) → nextStep P c q ≡ s → stepTested P (q .run) s .answer ≡ answer.Refused n → givenBy P c q ≡ stays Finished q
+  unfolding givenBy stepTested
+  given-refused s n e h = rw e (go (eqb (stepNumber P (q .run) s) 0) refl (outOfStep P (q .run) || pastDue P c q))
+    where
+      go : (b : Bool) → eqb (stepNumber P (q .run) s) 0 ≡ b → (stop : Bool)
+          → cond stop (stays Finished q) (cond b (record { next = Takes s; place = placeAfter P c q s }) (stays Finished q)) ≡ stays Finished q
+      go true e stop = absurd (let w : answer.Done ≡ answer.Refused n = rw e at h in let z : _≡_ {A = ℕ} 0 1 = cc in omega arith)
+      go false e true = refl
+      go false e false = refl
 
   -- what a look round tells
   pub looked-late : lookedOf P c q ≡ looked.PastDue → pastDue P c q ≡ true

@@ -14,3 +14,4 @@ pub mod Casting
 pub mod Widest
 pub mod Looks
 pub mod Why
+pub mod Left

@@ -22,12 +22,12 @@ use plan::Slot;
 use plan::plan_number;
 use rules::Outcome;
 use rules::verdict_tested;
+use run::Answer;
 use run::Run;
 use run::Step;
 use run::fresh;
 use run::in_range;
-use run::is_apart;
-use steps::moved;
+use steps::step_in_range;
 
 // Before, in or after the pivot.
 pub enum Mark {
@@ -98,6 +98,7 @@ fn stays(next: Next, place: Place) -> Given
 
 // The next step of a plan that passed 1 to 9 and fails a rule with these parts, at a place that passed 10.
 // The place after it passes 10 again, so step follows step with no test of either, at a cost that goes by N alone.
+// Out of step is a refusal of the step itself.
 pub fn given_tested(plan: Plan, parts: Parts, place: Place) -> Given
     requires { ⌜ planNumber plan ≡ 0 ⌝ }
     requires { ⌜ parts .sender .0 < plan .nodes .0 ⌝ }
@@ -106,15 +107,17 @@ pub fn given_tested(plan: Plan, parts: Parts, place: Place) -> Given
 {
     let run = place.run;
     let mark = place.mark;
-    if is_apart(plan, run) {
-        return stays(Next::Finished, place);
-    }
     let looked = look_round(plan, parts, run, mark);
     let Looked::OnTime(seen) = looked else {
         return stays(Next::Finished, place);
     };
     let step = next_step(plan, parts, run, mark, seen);
-    let moved = moved(plan, run, step);
+    let stepped = step_in_range(plan, run, step);
+    let answer = stepped.answer;
+    let Answer::Done = answer else {
+        return stays(Next::Finished, place);
+    };
+    let moved = stepped.run;
     let after = Place {
         run: moved,
         mark: mark_after(plan, parts, run, mark, step),

@@ -10,7 +10,6 @@ use plan_file::Read;
 use run::Answer;
 use run::Run;
 use run::Stepped;
-
 ghost use mathlib.Core.Path.{_≡_};
 ghost use mathlib.Core.Bool.{true};
 ghost use Prim.Native.Nat.{_<_, _≤_};
@@ -45,10 +44,18 @@ fn scan_line(reading: Reading, block: &[u8], from: usize) -> Scanned
         line = more;
         at = at + 1;
         if byte == b'\n' {
-            return Scanned { reading: line, next: at, ended: true };
+            return Scanned {
+                reading: line,
+                next: at,
+                ended: true,
+            };
         }
     }
-    Scanned { reading: line, next: at, ended: false }
+    Scanned {
+        reading: line,
+        next: at,
+        ended: false,
+    }
 }
 
 fn answered(plan: Plan, run: Run, line: Line) -> Stepped
@@ -57,7 +64,10 @@ fn answered(plan: Plan, run: Run, line: Line) -> Stepped
 {
     match line {
         Line::Asks(step) => steps::step_in_range(plan, run, step),
-        Line::Refused(k) => Stepped { answer: Answer::Refused(k), run: run },
+        Line::Refused(k) => Stepped {
+            answer: Answer::Refused(k),
+            run: run,
+        },
     }
 }
 
@@ -94,7 +104,11 @@ fn block_done(plan: Plan, desk: Desk, block: &[u8], out: &mut [u8]) -> Desk
         let line = scan.reading;
         at = scan.next;
         if !scan.ended {
-            return Desk { run: run, reading: line, waiting: waiting };
+            return Desk {
+                run: run,
+                reading: line,
+                waiting: waiting,
+            };
         }
         let done = answered(plan, run, lines::reading_end(line));
         let answer = done.answer;
@@ -103,7 +117,11 @@ fn block_done(plan: Plan, desk: Desk, block: &[u8], out: &mut [u8]) -> Desk
         run = moved;
         reading = Reading::Nothing;
     }
-    Desk { run: run, reading: reading, waiting: waiting }
+    Desk {
+        run: run,
+        reading: reading,
+        waiting: waiting,
+    }
 }
 
 fn flushed(out: &[u8], waiting: usize) {
