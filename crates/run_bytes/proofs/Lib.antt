@@ -1,0 +1,2 @@
+-- Laws of the byte form of a run.
+pub mod Written
