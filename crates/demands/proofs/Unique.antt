@@ -1,25 +1,113 @@
--- Every public function's promise leaves one answer: all of them, listed.
-use mathlib.Core.Path.{_≡_, sym, _∙_}
+-- Every public function's promise leaves one answer, and one content of what was lent: all of them, listed by crate.
 use Prim.Native.Nat.{ℕ}
+use mathlib.Core.Path.{_≡_, sym, _∙_}
+use mathlib.Core.Bool.{true}
 use mathlib.Core.List.{List}
 use Rattle.plan.specs.declared.Plan.{Plan}
 use Rattle.plan.specs.Tested.{planNumber}
 use Rattle.plan_file.specs.File.{readOf}
-use Rattle.rules.specs.Rules.{judgedOf}
-use Rattle.demands.specs.Promises.{OneAnswer}
+use Rattle.gap.specs.Gap.{gapOf}
+use Rattle.gap.specs.Gaps.{gapsOf}
+use Rattle.rules.specs.Rules.{verdictOf, judgedOf}
+use Rattle.run.specs.declared.Mode.{Mode}
+use Rattle.run.specs.declared.Run.{Run}
+use Rattle.run.specs.declared.Step.{Step}
+use Rattle.run.specs.declared.Answer.{Answer}
+use Rattle.run.specs.declared.Stepped.{Stepped}
+use Rattle.run.specs.State.{freshRun, isAbout, inRange, outOfStep, apartOf}
+use Rattle.run.specs.Moves.{delayed, ticked, sent}
+use Rattle.run.specs.Steps.{stepTested, stepOf, apartTest}
+use Rattle.run.specs.Reckoning.{reckonedTested, reckonedOf}
+use Rattle.demands.specs.Promises.{OneAnswer, OneLeft}
 
 -- a promise that is an equation
 equation : {A : Type 0} (x : A) → OneAnswer (λ (r : A). r ≡ x)
 equation x a b p q = p ∙ sym q
 
--- plan::plan_number
+-- a promise that is an equation on the answer and one on what was lent
+equations : {A L : Type 0} (x : A) (l : L) → OneLeft (λ (r : A) (after : L). (r ≡ x) × (after ≡ l))
+equations x l a b y z p q = (p .0 ∙ sym (q .0), p .1 ∙ sym (q .1))
+
+-- plan
+
 pub plan-number : (P : Plan) → OneAnswer (λ r. r ≡ planNumber P)
 plan-number P = equation (planNumber P)
 
--- plan_file::read_plan
+-- plan_file
+
 pub read-plan : (file : List ℕ) → OneAnswer (λ r. r ≡ readOf file)
 read-plan file = equation (readOf file)
 
--- rules::judge
+-- gap, of a tested plan
+
+pub gaps-tested : (P : Plan) → OneAnswer (λ r. r ≡ gapsOf P)
+gaps-tested P = equation (gapsOf P)
+
+pub widest-tested : (P : Plan) → OneAnswer (λ r. r ≡ gapOf P)
+widest-tested P = equation (gapOf P)
+
+-- rules
+
 pub judge : (P : Plan) → OneAnswer (λ r. r ≡ judgedOf P)
 judge P = equation (judgedOf P)
+
+pub verdict-tested : (P : Plan) → OneAnswer (λ r. r ≡ verdictOf P)
+verdict-tested P = equation (verdictOf P)
+
+-- run
+
+pub fresh : OneAnswer (λ r. r ≡ freshRun)
+fresh = equation freshRun
+
+pub out-of-step : (P : Plan) (r : Run) → OneAnswer (λ a. a ≡ apartTest P r)
+out-of-step P r = equation (apartTest P r)
+
+pub is-about : (m : Mode) → OneAnswer (λ a. a ≡ isAbout m)
+is-about m = equation (isAbout m)
+
+pub in-range : (P : Plan) (r : Run) → OneAnswer (λ a. a ≡ inRange P r)
+in-range P r = equation (inRange P r)
+
+pub apart-tested : (P : Plan) (r : Run) → OneAnswer (λ a. a ≡ apartOf P r)
+apart-tested P r = equation (apartOf P r)
+
+pub is-apart : (P : Plan) (r : Run) → OneAnswer (λ a. a ≡ outOfStep P r)
+is-apart P r = equation (outOfStep P r)
+
+-- moves, of a tested plan
+
+pub run-delayed : (P : Plan) (d : ℕ) (r : Run) → OneAnswer (λ a. a ≡ delayed P d r)
+run-delayed P d r = equation (delayed P d r)
+
+pub run-ticked : (P : Plan) (i : ℕ) (r : Run) → OneAnswer (λ a. a ≡ ticked P i r)
+run-ticked P i r = equation (ticked P i r)
+
+pub run-sent : (P : Plan) (i : ℕ) (r : Run) → OneAnswer (λ a. a ≡ sent P i r)
+run-sent P i r = equation (sent P i r)
+
+-- steps
+
+pub step : (P : Plan) (r : Run) (s : Step) → OneAnswer (λ a. a ≡ stepOf P r s)
+step P r s = equation (stepOf P r s)
+
+pub step-tested : (P : Plan) (r : Run) (s : Step) → OneAnswer (λ a. a ≡ stepTested P r s)
+step-tested P r s = equation (stepTested P r s)
+
+pub step-in-range : (P : Plan) (r : Run) (s : Step) → OneAnswer (λ (a : Stepped). (a ≡ stepTested P r s) × (inRange P (a .run) ≡ true))
+step-in-range P r s a b p q = p .0 ∙ sym (q .0)
+
+-- reckoning
+
+pub reckon : (P : Plan) (r : Run) (i : ℕ) → OneAnswer (λ a. a ≡ reckonedOf P r i)
+reckon P r i = equation (reckonedOf P r i)
+
+pub reckon-tested : (P : Plan) (r : Run) (i : ℕ) → OneAnswer (λ a. a ≡ reckonedTested P r i)
+reckon-tested P r i = equation (reckonedTested P r i)
+
+-- desk: the run that is lent
+
+pub step-in-place : (P : Plan) (r : Run) (s : Step) → OneLeft (λ (a : Answer) (after : Run). (a ≡ stepOf P r s .answer) × (after ≡ stepOf P r s .run))
+step-in-place P r s = equations (stepOf P r s .answer) (stepOf P r s .run)
+
+pub step-at-desk : (P : Plan) (r : Run) (s : Step) → OneAnswer (λ a. a ≡ stepOf P r s)
+step-at-desk P r s = equation (stepOf P r s)

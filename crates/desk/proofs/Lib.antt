@@ -1,2 +1,1 @@
 mod Values
-pub mod Unique

@@ -1,3 +1,4 @@
 pub mod Text
 pub mod Out
 pub mod In
+pub mod Reading

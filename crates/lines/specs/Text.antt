@@ -1,5 +1,6 @@
 -- Text as a list of bytes: words, numbers, and a text put into a lent buffer.
-use Prim.Native.Nat.{ℕ, zero, suc, _+_, _/_, _%_}
+use Prim.Native.Nat.{ℕ, zero, suc, _+_, _/_, _%_, _≤_}
+use mathlib.Core.Path.{_≡_}
 use Prim.Native.Char.{code}
 use Prim.Native.String.{String, len, charAt}
 use mathlib.Core.Bool.{Bool, cond}
@@ -27,6 +28,13 @@ digitsWithin (suc places) n = cond (ltb n 10) ((48 + n) ∷ []) (digitsWithin pl
 -- A number in decimal: 20 places hold every 64-bit number.
 abbrev pub decimal : ℕ → List ℕ
 decimal n = digitsWithin 20 n
+
+-- What putting a text at a place of a buffer leaves: the text from there on, every other byte as it was, and the place after the text,
+-- at most `room` bytes on.
+pub record Put (room : ℕ) (before : List ℕ) (at : ℕ) (text after : List ℕ) (end : ℕ) : Type 0 where
+  pub holds : after ≡ sets before at text
+  pub ends : end ≡ at + length text
+  pub within : end ≤ at + room
 
 -- A text is written at a place of a buffer where `room` bytes are left from there on; else nothing is.
 abbrev pub hasRoom : (room : ℕ) → List ℕ → ℕ → Bool

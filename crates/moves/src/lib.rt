@@ -15,37 +15,36 @@ use run::Mode;
 use run::NodeState;
 use run::Run;
 
-// g + 1 if a message was pending, otherwise one more, modulo k0.
-fn clock_after(plan: Plan, node: NodeState) -> Tick
+// The clock after a tick on clock c0: g + 1 if a message was pending, otherwise one more, modulo k0.
+fn clock_after(plan: Plan, pending: bool, c0: Tick) -> Tick
     requires { ⌜ Sound plan ⌝ }
-    requires { ⌜ node .clock .0 < plan .ticks .0 ⌝ }
-    ensures { λ r. ⌜ r .0 ≡ clockAfter plan (node .pending) (node .clock .0) ⌝ }
+    requires { ⌜ c0 .0 < plan .ticks .0 ⌝ }
+    ensures { λ r. ⌜ r .0 ≡ clockAfter plan pending (c0 .0) ⌝ }
 {
-    if node.pending {
+    if pending {
         return Tick(plan.guard.0 + 1);
     }
-    Tick((node.clock.0 + 1) % plan.ticks.0)
+    Tick((c0.0 + 1) % plan.ticks.0)
 }
 
-// Waiting in its own slot with c0 = g − 1: about to send. Sending with c0 = k0 − t − 1: waiting.
-fn mode_after(plan: Plan, own: Slot, node: NodeState) -> Mode
+// The mode after it. Waiting in its own slot with c0 = g − 1: about to send. Sending with c0 = k0 − t − 1: waiting.
+fn mode_after(plan: Plan, own: Slot, c0: Tick, slot: Slot, mode: Mode) -> Mode
     requires { ⌜ Sound plan ⌝ }
-    ensures { λ r. ⌜ r ≡ modeAfter plan (own .0) (node .clock .0) (node .slot .0) (node .mode) ⌝ }
+    ensures { λ r. ⌜ r ≡ modeAfter plan (own .0) (c0 .0) (slot .0) mode ⌝ }
 {
-    let mode = node.mode;
     match mode {
         Mode::Waiting => {
-            if node.slot.0 != own.0 {
+            if slot.0 != own.0 {
                 return Mode::Waiting;
             }
-            if node.clock.0 != plan.guard.0 - 1 {
+            if c0.0 != plan.guard.0 - 1 {
                 return Mode::Waiting;
             }
             Mode::AboutToSend
         }
         Mode::AboutToSend => Mode::AboutToSend,
         Mode::Sending => {
-            if node.clock.0 != plan.ticks.0 - plan.tail.0 - 1 {
+            if c0.0 != plan.ticks.0 - plan.tail.0 - 1 {
                 return Mode::Sending;
             }
             Mode::Waiting
@@ -53,38 +52,41 @@ fn mode_after(plan: Plan, own: Slot, node: NodeState) -> Mode
     }
 }
 
-// Waiting with c0 = k0 − 1: one more, modulo C.
-fn slot_after(plan: Plan, node: NodeState) -> Slot
+// The slot number after it. Waiting with c0 = k0 − 1: one more, modulo C.
+fn slot_after(plan: Plan, c0: Tick, slot: Slot, mode: Mode) -> Slot
     requires { ⌜ Sound plan ⌝ }
-    requires { ⌜ node .slot .0 < plan .frame .0 ⌝ }
-    ensures { λ r. ⌜ r .0 ≡ slotAfter plan (node .clock .0) (node .slot .0) (node .mode) ⌝ }
+    requires { ⌜ slot .0 < plan .frame .0 ⌝ }
+    ensures { λ r. ⌜ r .0 ≡ slotAfter plan (c0 .0) (slot .0) mode ⌝ }
 {
-    let mode = node.mode;
     match mode {
         Mode::Waiting => {
-            if node.clock.0 != plan.ticks.0 - 1 {
-                return Slot(node.slot.0);
+            if c0.0 != plan.ticks.0 - 1 {
+                return slot;
             }
-            Slot((node.slot.0 + 1) % plan.frame.0)
+            Slot((slot.0 + 1) % plan.frame.0)
         }
-        Mode::AboutToSend => Slot(node.slot.0),
-        Mode::Sending => Slot(node.slot.0),
+        Mode::AboutToSend => slot,
+        Mode::Sending => slot,
     }
 }
 
+// All decided on the clock before the tick, the pending mark cleared.
 fn node_ticked(plan: Plan, own: Slot, node: NodeState) -> NodeState
     requires { ⌜ Sound plan ⌝ }
     requires { ⌜ nodeInRange plan node ≡ true ⌝ }
     ensures { λ r. ⌜ r ≡ nodeTicked plan (own .0) node ⌝ }
 {
-    let clock = clock_after(plan, node);
-    let slot = slot_after(plan, node);
-    let mode = mode_after(plan, own, node);
+    let c0 = node.clock;
+    let slot = node.slot;
+    let mode = node.mode;
+    let clock = clock_after(plan, node.pending, c0);
+    let next_slot = slot_after(plan, c0, slot, mode);
+    let next_mode = mode_after(plan, own, c0, slot, mode);
     NodeState {
         clock: clock,
-        slot: slot,
+        slot: next_slot,
         time: Time(0),
-        mode: mode,
+        mode: next_mode,
         pending: false,
     }
 }

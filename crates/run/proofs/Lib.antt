@@ -3,4 +3,3 @@ pub mod Nodes
 pub mod Legal
 pub mod Ranges
 pub mod Apartness
-pub mod Unique

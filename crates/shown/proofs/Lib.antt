@@ -1,6 +1,7 @@
 pub mod Worked
 pub mod Sums
 pub mod Play
+pub mod Giving
 pub mod Progress
 pub mod Stands
 pub mod Roles
@@ -10,4 +11,6 @@ pub mod Later
 pub mod Rounds
 pub mod Dawn
 pub mod Casting
+pub mod Widest
+pub mod Looks
 pub mod Why

@@ -11,7 +11,7 @@ use native.Mathlib.Omega.{arith}
 use borrow.Author.Tests.{eq-eqb, ne-eqb}
 use lib.Dec.{eqb}
 use lib.ListN.{length}
-use Rattle.laws.proofs.Bools.{clash, cond-by, or-true-left, or-neither}
+use Rattle.laws.proofs.Bools.{clash, cond-by}
 use Rattle.plan.specs.declared.Plan.{Plan}
 use Rattle.plan.specs.declared.Node.{Node}
 use Rattle.plan.specs.declared.Time.{Time}
@@ -26,7 +26,7 @@ use Rattle.run.specs.declared.Step.the-variants.{Delay, TickOf, SendOf}
 use Rattle.run.specs.declared.Stepped.{Stepped}
 use Rattle.run.specs.State.{node, isAbout, inRange, outOfStep}
 use Rattle.run.specs.Moves.{moved, nodeTicked, nodeDelayed, nodeSent, nodeHearing, ticked, delayed, sent}
-use Rattle.run.specs.Steps.{Legal, runAfter, stepNumber}
+use Rattle.run.specs.Steps.{Legal, runAfter}
 use Rattle.run.proofs.Nodes.{room-moved, node-delayed, node-ticked, node-still, node-sender, node-hearing}
 use Rattle.run.proofs.Legal.{StepLegal, step-legal, step-done}
 use Rattle.run.proofs.Ranges.{step-keeps-range}
@@ -36,10 +36,11 @@ use Rattle.shown.specs.declared.Place.{Place}
 use Rattle.shown.specs.declared.Parts.{Parts}
 use Rattle.shown.specs.declared.Given.{Given}
 use Rattle.shown.specs.declared.Next.the-variants.{Takes, Finished}
-use Rattle.shown.specs.Shown.{dueTime, pivotNext, nextStep, markAfter, placeAfter, stays, pastDue, givenBy, givenOf, placeAt, shownSteps}
+use Rattle.shown.specs.Shown.{dueTime, pivotNext, nextStep, markAfter, placeAfter, stays, givenBy, givenOf, placeAt, shownSteps}
 use Rattle.shown.specs.Ends.{ticksIn}
 use Rattle.shown.proofs.Sums.{sumBelow, sum-same, sum-but-one, sum-within}
 use Rattle.shown.proofs.Play.{OnTime, TickMove, DelayMove, Move, on-time, next-move, move-legal}
+use Rattle.shown.proofs.Giving.{given-stops, given-takes}
 
 -- the shown run from q is legal and ends out of step, with at most n ticks
 pub record Reaches (P : Plan) (q : Place) (n : ℕ) : Type 0 where
@@ -163,17 +164,9 @@ due-delayed P c r In d i = refl
 due-delayed P c r After d i = refl
 
 module _ (P : Plan) (c : Parts) (o : Sound P) (plain : planNumber P ≡ 0) (by-parts : (q : Place) → inRange P (q .run) ≡ true → givenOf P q ≡ givenBy P c q) where
-  given-stops : (q : Place) → outOfStep P (q .run) ≡ true → givenBy P c q ≡ stays Finished q
-  unfolding givenBy
-  given-stops q e = rw (or-true-left (outOfStep P (q .run)) (pastDue P c q) e)
-
-  given-takes : (q : Place) (s : Step) → nextStep P c q ≡ s → outOfStep P (q .run) ≡ false → pastDue P c q ≡ false → stepNumber P (q .run) s ≡ 0 → givenBy P c q ≡ record { next = Takes s; place = placeAfter P c q s }
-  unfolding givenBy
-  given-takes q s e t d l = rw (or-neither (outOfStep P (q .run)) (pastDue P c q) t d, e, eq-eqb (stepNumber P (q .run) s) 0 l)
-
   stop : (q : Place) (n : ℕ) → Kept P (q .run) → outOfStep P (q .run) ≡ true → Reaches P q n
   stop q n k e =
-      let given : givenOf P q ≡ stays Finished q = by-parts q (k .range) ∙ given-stops q e in
+      let given : givenOf P q ≡ stays Finished q = by-parts q (k .range) ∙ given-stops P c q e in
       record { count = 0; legal = tt; reached = refl; out = e; finished = rw given; no-more = none given; few = omega arith }
     where
       nothing : givenOf P q ≡ stays Finished q → (more : ℕ) → shownSteps P more q ≡ []
@@ -186,7 +179,7 @@ module _ (P : Plan) (c : Parts) (o : Sound P) (plain : planNumber P ≡ 0) (by-p
   take : (q : Place) (s : Step) (n : ℕ) → OnTime P c q → nextStep P c q ≡ s → StepLegal P (q .run) s → Reaches P (placeAfter P c q s) n → Reaches P q (spent s n)
   take q s n t e l r =
       let number = step-legal P (q .run) s l in
-      let given : givenOf P q ≡ record { next = Takes s; place = placeAfter P c q s } = by-parts q (l .range) ∙ given-takes q s e (l .together) (on-time P c o q t) number in
+      let given : givenOf P q ≡ record { next = Takes s; place = placeAfter P c q s } = by-parts q (l .range) ∙ given-takes P c q s e (l .together) (on-time P c o q t) number in
       let done = step-done P (q .run) s plain number in
       let steps : shownSteps P (suc (r .count)) q ≡ s ∷ shownSteps P (r .count) (placeAfter P c q s) = rw given in
       let place : placeAt P (suc (r .count)) q ≡ placeAt P (r .count) (placeAfter P c q s) = ap (λ (g : Given). placeAt P (r .count) (g .place)) given in

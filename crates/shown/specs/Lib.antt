@@ -1,3 +1,4 @@
 pub mod Parts
 pub mod Shown
+pub mod Looking
 pub mod Ends

@@ -65,7 +65,7 @@ fn some_past_max(plan: Plan, run: Run, d: Time) -> bool
 }
 
 // Which of 15 and 14 speaks first against a delay; 0 where neither does.
-pub fn delay_number(plan: Plan, run: Run, d: Time) -> u8
+fn delay_number(plan: Plan, run: Run, d: Time) -> u8
     requires { ⌜ Sound plan ⌝ }
     requires { ⌜ inRange plan run ≡ true ⌝ }
     ensures { λ r. ⌜ r ≡ firstOf (stepRows plan run (Delay d)) ⌝ }
@@ -83,7 +83,7 @@ pub fn delay_number(plan: Plan, run: Run, d: Time) -> u8
 }
 
 // Which of 12 and 13 speaks first against a tick; 0 where neither does.
-pub fn tick_number(plan: Plan, run: Run, i: Node) -> u8
+fn tick_number(plan: Plan, run: Run, i: Node) -> u8
     requires { ⌜ Sound plan ⌝ }
     ensures { λ r. ⌜ r ≡ firstOf (stepRows plan run (TickOf i)) ⌝ }
 {
@@ -98,7 +98,7 @@ pub fn tick_number(plan: Plan, run: Run, i: Node) -> u8
 }
 
 // Which of 12 and 16 speaks first against a send; 0 where neither does.
-pub fn send_number(plan: Plan, run: Run, i: Node) -> u8
+fn send_number(plan: Plan, run: Run, i: Node) -> u8
     requires { ⌜ Sound plan ⌝ }
     ensures { λ r. ⌜ r ≡ firstOf (stepRows plan run (SendOf i)) ⌝ }
 {
@@ -114,7 +114,7 @@ pub fn send_number(plan: Plan, run: Run, i: Node) -> u8
 }
 
 // The first refusal from 11 on that speaks against a step; 0 where the step is legal.
-pub fn step_number(plan: Plan, run: Run, step: Step) -> u8
+fn step_number(plan: Plan, run: Run, step: Step) -> u8
     requires { ⌜ Sound plan ⌝ }
     requires { ⌜ inRange plan run ≡ true ⌝ }
     ensures { λ r. ⌜ r ≡ stepNumber plan run step ⌝ }
@@ -130,7 +130,7 @@ pub fn step_number(plan: Plan, run: Run, step: Step) -> u8
 }
 
 // The run after a legal step.
-pub fn moved(plan: Plan, run: Run, step: Step) -> Run
+fn moved(plan: Plan, run: Run, step: Step) -> Run
     requires { ⌜ Sound plan ⌝ }
     requires { ⌜ stepNumber plan run step ≡ 0 ⌝ }
     ensures { λ r. ⌜ r ≡ moved plan run step ⌝ }

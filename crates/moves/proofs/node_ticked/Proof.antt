@@ -6,10 +6,10 @@ use Rattle.moves.proofs.node_ticked.Statement.{statement}
 use Rattle.moves.proofs.node_ticked.Tie as tie
 
 clock-after-requires : tie.Need-clock-after-requires
-clock-after-requires c κs = (c .pre .0, within-node (c .args .plan) (c .args .node) (c .pre .1) .clock)
+clock-after-requires c κs = (c .before .before .pre .0, within-node (c .before .before .args .plan) (c .before .before .args .node) (c .before .before .pre .1) .clock)
 
 slot-after-requires : tie.Need-slot-after-requires
-slot-after-requires c κs = (c .before .pre .0, within-node (c .before .args .plan) (c .before .args .node) (c .before .pre .1) .slot)
+slot-after-requires c κs = (c .before .before .before .pre .0, within-node (c .before .before .before .args .plan) (c .before .before .before .args .node) (c .before .before .before .pre .1) .slot)
 
 mode-after-requires : tie.Need-mode-after-requires
 mode-after-requires c κs = search needs

@@ -1,11 +1,16 @@
 -- The rows of a send in turn.
-use mathlib.Core.Path.{sym, _∙_}
+use mathlib.Core.Bool.{false}
+use mathlib.Core.Path.{_≡_, sym, _∙_}
 use borrow.Author.Tests.{lt-leb, not-true, not-false}
 use borrow.Author.Needs.{needs}
+use lib.Dec.{leb}
 use Rattle.laws.specs.Row.{firstOf}
 use Rattle.laws.proofs.Tests.{tests}
 use Rattle.steps.proofs.send_number.Statement.{statement}
 use Rattle.steps.proofs.send_number.Tie as tie
+
+known : (c : tie.Else1) → leb (c .before .before .before .args .plan .nodes .0) (c .before .before .before .args .i .0) ≡ false
+known c = lt-leb (c .before .before .before .args .plan .nodes .0) (c .before .before .before .args .i .0) (c .if1 .left)
 
 returns : tie.Need-returns
 unfolding firstOf
@@ -25,11 +30,11 @@ is-about-requires c κs = search needs
 
 returns-2 : tie.Need-returns-2
 unfolding firstOf
-returns-2 c = rw (lt-leb (c .before .before .before .before .before .before .before .args .plan .nodes .0) (c .before .before .before .before .before .before .before .args .i .0) (c .before .before .before .before .if1 .left), sym (c .before .is-about .ensures) ∙ not-true (c .before .is-about .result) (c .if2 .taken))
+returns-2 c = rw (known (c .before .before .before .before), sym (c .before .is-about .ensures) ∙ not-true (c .before .is-about .result) (c .if2 .taken))
 
 returns-3 : tie.Need-returns-3
 unfolding firstOf
-returns-3 c = rw (lt-leb (c .before .before .before .before .before .before .before .args .plan .nodes .0) (c .before .before .before .before .before .before .before .args .i .0) (c .before .before .before .before .if1 .left), sym (c .before .is-about .ensures) ∙ not-false (c .before .is-about .result) (c .if2 .left))
+returns-3 c = rw (known (c .before .before .before .before), sym (c .before .is-about .ensures) ∙ not-false (c .before .is-about .result) (c .if2 .left))
 
 pub send-number-spec : {M : Type 1} → statement M
 send-number-spec =

@@ -1,0 +1,57 @@
+use native.Mathlib.Omega.{arith}
+use Rattle.lines.specs.Out.{judgedText}
+use Rattle.lines.proofs.Puts.{put-more}
+use borrow.Author.Needs.{needs}
+use Rattle.lines.proofs.put_judged.Statement.{statement}
+use Rattle.lines.proofs.put_judged.Tie as tie
+use Rattle.lines.proofs.put_judged.Reads as reads
+use Rattle.lines.proofs.put_judged.Lts as lts
+use Rattle.lines.proofs.put_refused.Reads as put-refused-reads
+use Rattle.lines.proofs.put_verdict.Reads as put-verdict-reads
+
+-- src/lib.rt:204:23
+enum-known-judged : tie.Need-enum-known-judged
+enum-known-judged c = search needs
+
+-- src/lib.rt:204:35
+put-verdict-requires : tie.Need-put-verdict-requires
+put-verdict-requires c κs = search needs
+
+-- src/lib.rt:205:25
+enum-known-judged-2 : tie.Need-enum-known-judged-2
+enum-known-judged-2 c = search needs
+
+-- src/lib.rt:205:36
+put-refused-requires : tie.Need-put-refused-requires
+put-refused-requires c κs = search needs
+
+-- src/lib.rt:199:1
+same-length : tie.Need-same-length
+same-length c = search needs
+
+-- src/lib.rt:199:1
+returns : tie.Need-returns
+unfolding judgedText
+returns c = rw (c .before .before .before .before .before .judged .given .1) (c .before .before .put-verdict .ensures)
+
+-- src/lib.rt:199:1
+same-length-2 : tie.Need-same-length-2
+same-length-2 c = search needs
+
+-- src/lib.rt:199:1
+returns-2 : tie.Need-returns-2
+unfolding judgedText
+returns-2 c = rw (c .before .before .before .before .before .judged2 .given .1) (put-more 219 (omega arith) (c .before .before .put-refused .ensures))
+
+pub put-judged-spec : {M : Type 1} → statement M
+put-judged-spec =
+    tie.close
+    (tie.spec
+    enum-known-judged
+    put-verdict-requires
+    enum-known-judged-2
+    put-refused-requires
+    same-length
+    returns
+    same-length-2
+    returns-2)

@@ -1,0 +1,48 @@
+use Rattle.lines.proofs.Puts.{_then_}
+use borrow.Author.Needs.{needs}
+use Rattle.lines.proofs.put_line.Statement.{statement}
+use Rattle.lines.proofs.put_line.Tie as tie
+use Rattle.lines.proofs.put_line.Reads as reads
+use Rattle.lines.proofs.put_line.Lts as lts
+use Rattle.lines.proofs.put_byte.Reads as put-byte-reads
+use Rattle.lines.proofs.put_number.Reads as put-number-reads
+
+-- src/lib.rt:162:9
+put-byte-requires : tie.Need-put-byte-requires
+put-byte-requires c κs = search needs
+
+-- src/lib.rt:163:9
+put-byte-requires-2 : tie.Need-put-byte-requires-2
+put-byte-requires-2 c κs = search needs
+
+-- src/lib.rt:164:9
+put-number-requires : tie.Need-put-number-requires
+put-number-requires c κs = search needs
+
+-- src/lib.rt:165:5
+put-byte-requires-3 : tie.Need-put-byte-requires-3
+put-byte-requires-3 c κs = search needs
+
+-- src/lib.rt:158:1
+same-length : tie.Need-same-length
+same-length c = search needs
+
+-- src/lib.rt:158:1
+returns : tie.Need-returns
+returns c =
+    let at₄ = c .before .before in
+    let at₃ = at₄ .before .before .before .before in
+    let at₂ = at₃ .before .before .before .before in
+    let at₁ = at₂ .before .before .before .before in
+    at₁ .put-byte .ensures then at₂ .put-byte2 .ensures then at₃ .put-number .ensures then at₄ .put-byte3 .ensures
+
+pub put-line-spec : {M : Type 1} → statement M
+put-line-spec =
+    tie.close
+    (tie.spec
+    put-byte-requires
+    put-byte-requires-2
+    put-number-requires
+    put-byte-requires-3
+    same-length
+    returns)

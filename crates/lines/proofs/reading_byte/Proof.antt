@@ -1,0 +1,127 @@
+use mathlib.Core.Path.{sym, _∙_}
+use native.Mathlib.Omega.{arith}
+use borrow.Author.Tests.{ne-eqb, leb-true}
+use Rattle.laws.proofs.Bools.{and-true-left}
+use Rattle.lines.specs.Reading.{readingAfter}
+use borrow.Author.Needs.{needs}
+use Rattle.lines.proofs.reading_byte.Statement.{statement}
+use Rattle.lines.proofs.reading_byte.Tie as tie
+use Rattle.lines.proofs.reading_byte.Reads as reads
+use Rattle.lines.proofs.reading_byte.Lts as lts
+use Rattle.lines.proofs.is_digit.Reads as is-digit-reads
+use Rattle.lines.proofs.is_letter.Reads as is-letter-reads
+use Rattle.lines.proofs.number_after.Reads as number-after-reads
+
+-- src/lib.rt:344:16
+enum-told : tie.Need-enum-told
+enum-told c = search needs
+
+-- src/lib.rt:344:16
+is-letter-requires : tie.Need-is-letter-requires
+is-letter-requires c κs = search needs
+
+-- src/lib.rt:345:17
+returns : tie.Need-returns
+unfolding readingAfter
+returns c = rw (c .before .before .enum-told .given .1, ← c .before .is-letter .ensures, c .if1 .taken)
+
+-- src/lib.rt:349:25
+enum-known-reading : tie.Need-enum-known-reading
+enum-known-reading c = search needs
+
+-- src/lib.rt:351:17
+returns-2 : tie.Need-returns-2
+unfolding readingAfter
+returns-2 c = rw (c .before .before .reading .given .1, c .if2 .taken)
+
+-- src/lib.rt:355:24
+enum-known-reading-2 : tie.Need-enum-known-reading-2
+enum-known-reading-2 c = search needs
+
+-- src/lib.rt:356:16
+is-digit-requires : tie.Need-is-digit-requires
+is-digit-requires c κs = search needs
+
+-- src/lib.rt:357:49
+sub-t13 : tie.Need-sub-t13
+sub-t13 c = omega (arith, leb-true 48 (c .before .before .before .before .before .args .byte) (and-true-left _ _ (sym (c .before .is-digit .ensures) ∙ c .if3 .taken)))
+
+-- src/lib.rt:357:48
+cast-t14 : tie.Need-cast-t14
+cast-t14 c = search needs
+
+-- src/lib.rt:357:17
+returns-3 : tie.Need-returns-3
+unfolding readingAfter
+returns-3 c = rw (c .before .before .before .reading2 .given .1, ← c .before .is-digit .ensures, c .if3 .taken)
+
+-- src/lib.rt:361:25
+enum-known-reading-3 : tie.Need-enum-known-reading-3
+enum-known-reading-3 c = search needs
+
+-- src/lib.rt:361:44
+number-after-requires : tie.Need-number-after-requires
+number-after-requires c κs = search needs
+
+-- src/lib.rt:362:24
+enum-known-reading-4 : tie.Need-enum-known-reading-4
+enum-known-reading-4 c = search needs
+
+-- src/lib.rt:363:27
+enum-told-2 : tie.Need-enum-told-2
+enum-told-2 c = search needs
+
+-- src/lib.rt:339:1
+returns-4 : tie.Need-returns-4
+unfolding readingAfter
+returns-4 c = rw (c .before .before .enum-told .given .1, ← c .before .is-letter .ensures, c .if1 .left)
+
+-- src/lib.rt:339:1
+returns-5 : tie.Need-returns-5
+unfolding readingAfter
+returns-5 c = rw (c .before .before .reading .given .1, ne-eqb _ 32 (c .if2 .left))
+
+-- src/lib.rt:339:1
+returns-6 : tie.Need-returns-6
+unfolding readingAfter
+returns-6 c = rw (c .before .before .before .reading2 .given .1, ← c .before .is-digit .ensures, c .if3 .left)
+
+-- src/lib.rt:339:1
+returns-7 : tie.Need-returns-7
+unfolding readingAfter
+returns-7 c = rw (c .before .before .reading3 .given .1) (c .number-after .ensures)
+
+-- src/lib.rt:339:1
+returns-8 : tie.Need-returns-8
+unfolding readingAfter
+returns-8 c = rw (c .before .reading4 .given .1)
+
+-- src/lib.rt:339:1
+returns-9 : tie.Need-returns-9
+unfolding readingAfter
+returns-9 c = rw (c .enum-told2 .given .1)
+
+pub reading-byte-spec : {M : Type 1} → statement M
+reading-byte-spec =
+    tie.close
+    (tie.spec
+    enum-told
+    is-letter-requires
+    returns
+    enum-known-reading
+    returns-2
+    enum-known-reading-2
+    is-digit-requires
+    sub-t13
+    cast-t14
+    returns-3
+    enum-known-reading-3
+    number-after-requires
+    enum-known-reading-4
+    enum-told-2
+    returns-4
+    returns-5
+    returns-6
+    returns-7
+    returns-8
+    returns-9)

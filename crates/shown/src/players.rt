@@ -1,0 +1,149 @@
+// Who plays which part, from the gaps of a tested plan: loops over the nodes, none over the frame.
+ghost use mathlib.Core.Path.{_≡_};
+ghost use mathlib.Core.Bool.{cond, not, _&&_};
+ghost use Prim.Native.Nat.{min};
+ghost use lib.Dec.{eqb};
+ghost use Rattle.laws.specs.Below.{firstBelow};
+ghost use Rattle.plan.specs.Tested.{planNumber, Sound};
+ghost use Rattle.gap.specs.Gap.{gapOf};
+ghost use Rattle.gap.specs.Gaps.{gapsOf};
+ghost use Rattle.shown.specs.Parts.{widestFrom, widestNode, senderIn, silentIn, partsWith, partsFor};
+use crate::Parts;
+use gap::Gaps;
+use gap::NodeGap;
+use plan::Node;
+use plan::Plan;
+use plan::Slot;
+use rules::Rule;
+
+fn smaller(a: u16, b: u16) -> u16
+    ensures { λ r. ⌜ r ≡ min a b ⌝ }
+{
+    if b < a {
+        return b;
+    }
+    a
+}
+
+// The predecessor of a node's sending slot where its D is M; C, which is no slot, where it is not.
+fn predecessor_at(node: NodeGap, gap: Slot, frame: Slot) -> u16
+    ensures { λ r. ⌜ r ≡ cond (eqb (node .gap .0) (gap .0)) (node .predecessor .0) (frame .0) ⌝ }
+{
+    if node.gap.0 == gap.0 {
+        return node.predecessor.0;
+    }
+    frame.0
+}
+
+// p of rules 1 and 2.
+fn widest_from(plan: Plan, gaps: Gaps, gap: Slot) -> Slot
+    requires { ⌜ Sound plan ⌝ }
+    requires { ⌜ gaps ≡ gapsOf plan ⌝ }
+    requires { ⌜ gap .0 ≡ gapOf plan ⌝ }
+    ensures { λ r. ⌜ r .0 ≡ widestFrom plan ⌝ }
+{
+    let nodes = plan.nodes.0 as usize;
+    let mut least = plan.frame.0;
+    for i in 0..nodes {
+        let node = gaps.nodes[i];
+        least = smaller(least, predecessor_at(node, gap, plan.frame));
+    }
+    Slot(least)
+}
+
+// The node that sends in s of rules 1 and 2.
+fn widest_node(plan: Plan, gaps: Gaps, gap: Slot, from: Slot) -> Node
+    requires { ⌜ Sound plan ⌝ }
+    requires { ⌜ gaps ≡ gapsOf plan ⌝ }
+    requires { ⌜ gap .0 ≡ gapOf plan ⌝ }
+    requires { ⌜ from .0 ≡ widestFrom plan ⌝ }
+    ensures { λ r. ⌜ r .0 ≡ widestNode plan ⌝ }
+{
+    let nodes = plan.nodes.0 as usize;
+    for i in 0..nodes {
+        let node = gaps.nodes[i];
+        if predecessor_at(node, gap, plan.frame) == from.0 {
+            return Node(i as u32);
+        }
+    }
+    plan.nodes
+}
+
+// The node that sends in a slot.
+fn sender_in(plan: Plan, slot: Slot) -> Node
+    requires { ⌜ Sound plan ⌝ }
+    ensures { λ r. ⌜ r .0 ≡ senderIn plan (slot .0) ⌝ }
+{
+    let nodes = plan.nodes.0 as usize;
+    for i in 0..nodes {
+        let own = plan.slots[i];
+        if own.0 == slot.0 {
+            return Node(i as u32);
+        }
+    }
+    plan.nodes
+}
+
+// A node that sends in slot `own` sends neither in p nor in s.
+fn is_silent(own: Slot, p: Slot, s: Slot) -> bool
+    ensures { λ r. ⌜ r ≡ not (eqb (own .0) (p .0)) && not (eqb (own .0) (s .0)) ⌝ }
+{
+    if own.0 == p.0 {
+        return false;
+    }
+    own.0 != s.0
+}
+
+// The lowest node that sends neither in p nor in s.
+fn first_silent(plan: Plan, p: Slot, s: Slot) -> Node
+    requires { ⌜ Sound plan ⌝ }
+    ensures { λ r. ⌜ r .0 ≡ firstBelow (plan .nodes .0) (λ i. silentIn plan (p .0) i && silentIn plan (s .0) i) ⌝ }
+{
+    let nodes = plan.nodes.0 as usize;
+    for i in 0..nodes {
+        let own = plan.slots[i];
+        if is_silent(own, p, s) {
+            return Node(i as u32);
+        }
+    }
+    plan.nodes
+}
+
+fn parts_with(plan: Plan, p: Slot, fast: Node) -> Parts
+    requires { ⌜ Sound plan ⌝ }
+    ensures { λ r. ⌜ r ≡ partsWith plan (p .0) (fast .0) ⌝ }
+{
+    let sender = sender_in(plan, p);
+    Parts {
+        p: p,
+        sender: sender,
+        fast: fast,
+    }
+}
+
+// The parts of the run shown for a rule.
+pub fn parts_tested(plan: Plan, gaps: Gaps, gap: Slot, rule: Rule) -> Parts
+    requires { ⌜ planNumber plan ≡ 0 ⌝ }
+    requires { ⌜ gaps ≡ gapsOf plan ⌝ }
+    requires { ⌜ gap .0 ≡ gapOf plan ⌝ }
+    ensures { λ r. ⌜ r ≡ partsFor plan rule ⌝ }
+{
+    match rule {
+        Rule::One => {
+            let p = widest_from(plan, gaps, gap);
+            let fast = widest_node(plan, gaps, gap, p);
+            parts_with(plan, p, fast)
+        }
+        Rule::Two => {
+            let p = widest_from(plan, gaps, gap);
+            let widest = widest_node(plan, gaps, gap, p);
+            let s = plan.slots[widest.0 as usize];
+            let fast = first_silent(plan, p, s);
+            parts_with(plan, p, fast)
+        }
+        Rule::Three => {
+            let fast = first_silent(plan, Slot(0), Slot(0));
+            parts_with(plan, Slot(0), fast)
+        }
+    }
+}
