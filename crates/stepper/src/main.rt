@@ -33,7 +33,7 @@ struct Desk {
 }
 
 // Reads on from a place until a line ends or the block does.
-fn scanned(reading: Reading, block: &[u8], from: usize) -> Scanned
+fn scan_line(reading: Reading, block: &[u8], from: usize) -> Scanned
     requires { ⌜ from < length (now block) ⌝ }
     ensures { λ r. ⌜ from < r .next ⌝ }
 {
@@ -90,7 +90,7 @@ fn block_done(plan: Plan, desk: Desk, block: &[u8], out: &mut [u8]) -> Desk
     let mut waiting = desk.waiting;
     let mut at = 0;
     while at < block.len() {
-        let scan = scanned(reading, block, at);
+        let scan = scan_line(reading, block, at);
         let line = scan.reading;
         at = scan.next;
         if !scan.ended {
@@ -104,4 +104,75 @@ fn block_done(plan: Plan, desk: Desk, block: &[u8], out: &mut [u8]) -> Desk
         reading = Reading::Nothing;
     }
     Desk { run: run, reading: reading, waiting: waiting }
+}
+
+fn flushed(out: &[u8], waiting: usize) {
+    if waiting <= out.len() {
+        io::write_all(STDOUT_FILENO, &out[..waiting]);
+    }
+}
+
+// A last line without its newline is a line of another shape; nothing after the last newline is no line.
+fn last_line(desk: Desk, out: &mut [u8]) {
+    let reading = desk.reading;
+    let waiting = desk.waiting;
+    if let Reading::Nothing = reading {
+        return;
+    }
+    let at = put_answer(out, waiting, Answer::Refused(plan::LINE_WRONG));
+    flushed(out, at);
+}
+
+// Blocks as they come, until the input ends.
+fn all_steps(plan: Plan)
+    requires { ⌜ Sound plan ⌝ }
+{
+    let mut out = io::large_buffer();
+    let mut desk = Desk { run: run::fresh(), reading: Reading::Nothing, waiting: 0 };
+    let mut turns = u64::MAX;
+    while turns > 0 {
+        let mut block = io::buffer();
+        let got = libc::read(STDIN_FILENO, &mut block);
+        let n = io::count(got, &block);
+        if n == 0 {
+            last_line(desk, &mut out);
+            return;
+        }
+        let next = block_done(plan, desk, &block[..n], &mut out);
+        flushed(&out, next.waiting);
+        desk = next;
+        desk.waiting = 0;
+        turns = turns - 1;
+    }
+}
+
+fn refused(answer: Read) {
+    if let Read::Refused(k) = answer {
+        let mut out = [0u8; 32];
+        if let Wrote::To(n) = lines::write_refused(&mut out, 0, k) {
+            flushed(&out, n);
+        }
+    }
+}
+
+fn on_plan_file(file: &[u8]) {
+    let read = plan_file::read_plan(file);
+    let answer = read.answer;
+    let Read::Taken = answer else {
+        refused(answer);
+        return;
+    };
+    let plan = read.plan;
+    all_steps(plan);
+}
+
+// A file that can't be read counts as empty; of a file longer than any plan file no more is read than shows that it is.
+fn main() {
+    let mut path = io::buffer();
+    let length = os::arg(1, &mut path);
+    let fd = os::open_read(&path[..length]);
+    let mut file = io::buffer();
+    let n = io::read_full(fd, &mut file);
+    libc::close(fd);
+    on_plan_file(&file[..n]);
 }
