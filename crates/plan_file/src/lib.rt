@@ -35,14 +35,14 @@ fn wide32(x: u8) -> u32
     x as u32
 }
 
-fn be16(file: &[u8], at: usize) -> u16
+pub fn be16(file: &[u8], at: usize) -> u16
     requires { ⌜ at + 1 < length (now file) ⌝ }
     ensures { λ r. ⌜ r ≡ be16Of (now (file .entry)) at ⌝ }
 {
     wide16(file[at]) * 256 + wide16(file[at + 1])
 }
 
-fn be32(file: &[u8], at: usize) -> u32
+pub fn be32(file: &[u8], at: usize) -> u32
     requires { ⌜ at + 3 < length (now file) ⌝ }
     ensures { λ r. ⌜ r ≡ be32Of (now (file .entry)) at ⌝ }
 {

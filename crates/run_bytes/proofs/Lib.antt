@@ -1,0 +1,4 @@
+-- Laws of the byte form of a run.
+pub mod Sets
+pub mod Written
+pub mod RoundTrip
