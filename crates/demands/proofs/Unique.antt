@@ -27,7 +27,7 @@ use Rattle.shown.specs.Parts.{partsFor}
 use Rattle.shown.specs.Shown.{freshPlace, givenBy, givenOf}
 use Rattle.lines.specs.declared.Wrote.{Wrote}
 use Rattle.lines.specs.declared.Reading.{Reading}
-use Rattle.lines.specs.Text.{wroteOf, bufferOf}
+use Rattle.lines.specs.Written.{wroteOf, bufferOf}
 use Rattle.lines.specs.Out.{judgedText, stepText, answerText, outText, refusedLine}
 use Rattle.lines.specs.In.{lineOf}
 use Rattle.lines.specs.Reading.{readingAfter, lineRead}

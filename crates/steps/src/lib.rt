@@ -130,7 +130,7 @@ fn step_number(plan: Plan, run: Run, step: Step) -> u8
 }
 
 // The run after a legal step.
-pub fn moved(plan: Plan, run: Run, step: Step) -> Run
+fn moved(plan: Plan, run: Run, step: Step) -> Run
     requires { ⌜ Sound plan ⌝ }
     requires { ⌜ stepNumber plan run step ≡ 0 ⌝ }
     ensures { λ r. ⌜ r ≡ moved plan run step ⌝ }

@@ -1,3 +1,0 @@
--- What the proofs of several calls use.
-pub mod Calling
-pub mod AskedOn
