@@ -146,7 +146,11 @@ fn all_steps(plan: Plan)
     requires { ⌜ Sound plan ⌝ }
 {
     let mut out = io::large_buffer();
-    let mut desk = Desk { run: run::fresh(), reading: Reading::Nothing, waiting: 0 };
+    let mut desk = Desk {
+        run: run::fresh(),
+        reading: Reading::Nothing,
+        waiting: 0,
+    };
     let mut turns = u64::MAX;
     while turns > 0 {
         let mut block = io::buffer();
