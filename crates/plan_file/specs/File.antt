@@ -30,9 +30,17 @@ unfoldable pub markWrong : List ℕ → Bool
 markWrong file =
     ltb (length file) 5 || not (eqb (byteAt file 0) 67) || not (eqb (byteAt file 1) 83) || not (eqb (byteAt file 2) 80)
 
--- Fewer than 21 bytes, or not 21 + 2 × N, with N in byte 5.
+-- N stands in byte 5.
+abbrev pub nodesIn : List ℕ → ℕ
+nodesIn file = byteAt file 5
+
+-- The length of a file with N nodes: 21 + 2 × N.
+abbrev pub fileLength : ℕ → ℕ
+fileLength N = 21 + 2 * N
+
+-- Fewer than 21 bytes, or another length than N asks for.
 unfoldable pub lengthWrong : List ℕ → Bool
-lengthWrong file = ltb (length file) 21 || not (eqb (length file) (21 + 2 * byteAt file 5))
+lengthWrong file = ltb (length file) 21 || not (eqb (length file) (fileLength (nodesIn file)))
 
 -- Refusals 20 to 22, in the order of the tests; the version stands in bytes 3 and 4.
 abbrev pub fileRows : List ℕ → List Row
@@ -47,7 +55,7 @@ fileNumber file = firstOf (fileRows file)
 
 -- The sending slot at a place: two bytes each from byte 21 on; 0 for places from N on.
 unfoldable pub slotAt : List ℕ → ℕ → ℕ
-slotAt file k = cond (ltb k (byteAt file 5)) (be16Of file (21 + 2 * k)) 0
+slotAt file k = cond (ltb k (nodesIn file)) (be16Of file (21 + 2 * k)) 0
 
 -- All 32 places.
 unfoldable pub slotsOf : List ℕ → List Slot
@@ -57,7 +65,7 @@ slotsOf file = over 32 (λ k x. record { 0 = slotAt file k }) (replicate 32 (rec
 unfoldable pub planOf : List ℕ → Plan
 planOf file =
     record {
-      nodes = record { 0 = byteAt file 5 };
+      nodes = record { 0 = nodesIn file };
       frame = record { 0 = be16Of file 6 };
       active = record { 0 = be16Of file 8 };
       ticks = record { 0 = byteAt file 10 };

@@ -25,10 +25,14 @@ nodeDelayed d a =
 unfoldable pub clockAfter : Plan → Bool → ℕ → ℕ
 clockAfter P pending c0 = cond pending (P .guard .0 + 1) ((c0 + 1) % P .ticks .0)
 
+-- In slot w with c0 = g − 1: the slot number s is w, and the tick on clock c0 is the guard's last.
+abbrev pub guardEnds : Plan → (w c0 s : ℕ) → Bool
+guardEnds P w c0 s = eqb s w && eqb (c0 + 1) (P .guard .0)
+
 -- The mode after a tick on clock c0 in slot s, for a node that sends in slot w.
 -- Waiting in its own slot with c0 = g − 1: about to send. Sending with c0 = k0 − t − 1: waiting. Else as it was.
 unfoldable pub modeAfter : Plan → (w c0 s : ℕ) → Mode → Mode
-modeAfter P w c0 s Waiting = cond (eqb s w && eqb (c0 + 1) (P .guard .0)) AboutToSend Waiting
+modeAfter P w c0 s Waiting = cond (guardEnds P w c0 s) AboutToSend Waiting
 modeAfter P w c0 s AboutToSend = AboutToSend
 modeAfter P w c0 s Sending = cond (eqb (c0 + P .tail .0 + 1) (P .ticks .0)) Waiting Sending
 

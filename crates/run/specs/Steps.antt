@@ -1,7 +1,7 @@
 -- A step on a run: refused by the first row that holds, or done. Runs of several steps.
 use Prim.Native.Nat.{ℕ, _+_}
 use mathlib.Core.Path.{_≡_}
-use mathlib.Core.Bool.{Bool, cond, not, _||_}
+use mathlib.Core.Bool.{Bool, true, false, cond, not, _||_}
 use mathlib.Core.List.{List, [], _∷_}
 use lib.Dec.{eqb, leb, ltb}
 use Rattle.laws.specs.Row.{Row, given, firstOf}
@@ -19,6 +19,17 @@ use Rattle.run.specs.declared.Apart.{Apart}
 use Rattle.run.specs.declared.Apart.the-variants as apart
 use Rattle.run.specs.State.{node, isAbout, inRange, outOfStep, apartOf}
 use Rattle.run.specs.Moves.{moved}
+
+-- A step is a delay; a tick of node i.
+abbrev pub isDelay : Step → Bool
+isDelay (Delay d) = true
+isDelay (TickOf i) = false
+isDelay (SendOf i) = false
+
+abbrev pub isTickOf : ℕ → Step → Bool
+isTickOf n (Delay d) = false
+isTickOf n (TickOf i) = eqb (i .0) n
+isTickOf n (SendOf i) = false
 
 -- The rows that speak of the step itself.
 abbrev pub stepRows : Plan → Run → Step → List Row

@@ -107,8 +107,8 @@ module _ {P : Plan} {c : Parts} (o : Sound P) (R : Roles P c) where
 
         next : pivotNext P c r ≡ true → ⊥
         next t =
-            let s = eqb-true (node r a .slot .0) (c .p .0) (and-true-right waiting here (and-true-left (waiting && here) now t)) in
-            let k = eqb-true (node r a .clock .0 + 1) (P .guard .0) (and-true-right (waiting && here) now t) in
+            let s = eqb-true (node r a .slot .0) (c .p .0) (and-true-left here now (and-true-right waiting (here && now) t)) in
+            let k = eqb-true (node r a .clock .0 + 1) (P .guard .0) (and-true-right here now (and-true-right waiting (here && now) t)) in
             let z = rw (s, from-0 (P .frame .0) (c .p .0) (pivot-in-frame o R)) at (E .round a (R .sender-below) .stands .counts) in
             e (omega (arith, sender-count))
 

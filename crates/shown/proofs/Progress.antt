@@ -45,6 +45,7 @@ use Rattle.shown.proofs.Giving.{given-stops, given-takes}
 -- the shown run from q is legal and ends out of step, with at most n ticks
 pub record Reaches (P : Plan) (q : Place) (n : ℕ) : Type 0 where
   pub count : ℕ
+  pub exact : length (shownSteps P count q) ≡ count
   pub legal : Legal P (q .run) (shownSteps P count q)
   pub reached : runAfter P (q .run) (shownSteps P count q) ≡ placeAt P count q .run
   pub out : outOfStep P (placeAt P count q .run) ≡ true
@@ -167,7 +168,7 @@ module _ (P : Plan) (c : Parts) (o : Sound P) (plain : planNumber P ≡ 0) (by-p
   stop : (q : Place) (n : ℕ) → Kept P (q .run) → outOfStep P (q .run) ≡ true → Reaches P q n
   stop q n k e =
       let given : givenOf P q ≡ stays Finished q = by-parts q (k .range) ∙ given-stops P c q e in
-      record { count = 0; legal = tt; reached = refl; out = e; finished = rw given; no-more = none given; few = omega arith }
+      record { count = 0; exact = refl; legal = tt; reached = refl; out = e; finished = rw given; no-more = none given; few = omega arith }
     where
       nothing : givenOf P q ≡ stays Finished q → (more : ℕ) → shownSteps P more q ≡ []
       nothing g zero = refl
@@ -185,6 +186,7 @@ module _ (P : Plan) (c : Parts) (o : Sound P) (plain : planNumber P ≡ 0) (by-p
       let place : placeAt P (suc (r .count)) q ≡ placeAt P (r .count) (placeAfter P c q s) = ap (λ (g : Given). placeAt P (r .count) (g .place)) given in
       record {
         count = suc (r .count);
+        exact = rw given (ap suc (r .exact));
         legal = rw (given, done) (refl, r .legal);
         reached = ap (λ (l : List Step). runAfter P (q .run) l) steps ∙ ap (λ (a : Stepped). runAfter P (a .run) (shownSteps P (r .count) (placeAfter P c q s))) done ∙ r .reached ∙ ap (λ (p : Place). p .run) (sym place);
         out = ap (λ (p : Place). outOfStep P (p .run)) place ∙ r .out;

@@ -178,7 +178,7 @@ module _ (P : Plan) (o : Sound P) (c : Parts) (R : Roles P c) (F : Failure P c) 
   pub ends-by : planNumber P ≡ 0 → ((q : Place) → inRange P (q .run) ≡ true → givenOf P q ≡ givenBy P c q) → Ends P
   unfolding freshPlace
   ends-by plain by-parts =
-      record { count = r .count; legal = r .legal; reached = r .reached; out = r .out; finished = r .finished; no-more = r .no-more; few = few }
+      record { count = r .count; exact = r .exact; legal = r .legal; reached = r .reached; out = r .out; finished = r .finished; no-more = r .no-more; few = few }
     where
       r : Reaches P freshPlace (left P bound (λ k. 0))
       r =

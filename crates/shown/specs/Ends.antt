@@ -3,6 +3,7 @@ use Prim.Native.Nat.{ℕ, suc, _+_, _*_, _≤_}
 use mathlib.Core.Path.{_≡_}
 use mathlib.Core.Bool.{true}
 use mathlib.Core.List.{List, [], _∷_}
+use lib.ListN.{length}
 use Rattle.plan.specs.declared.Plan.{Plan}
 use Rattle.plan.specs.Tested.{planNumber}
 use Rattle.rules.specs.declared.Rule.{Rule}
@@ -22,10 +23,11 @@ ticksIn (Delay d ∷ steps) = ticksIn steps
 ticksIn (TickOf i ∷ steps) = suc (ticksIn steps)
 ticksIn (SendOf i ∷ steps) = ticksIn steps
 
--- The shown run is over within `count` steps. Each is legal; they lead to where the run is out of step; there it is finished,
+-- The shown run has `count` steps, no fewer. Each is legal; they lead to where the run is out of step; there it is finished,
 -- and asked for more it gives no more. At most 2·N·C·k0 of the steps are ticks.
 pub record Ends (P : Plan) : Type 0 where
   pub count : ℕ
+  pub exact : length (shownSteps P count freshPlace) ≡ count
   pub legal : Legal P freshRun (shownSteps P count freshPlace)
   pub reached : runAfter P freshRun (shownSteps P count freshPlace) ≡ placeAt P count freshPlace .run
   pub out : outOfStep P (placeAt P count freshPlace .run) ≡ true

@@ -15,8 +15,8 @@ use Rattle.run.specs.declared.Run.{Run}
 use Rattle.run.specs.declared.Step.{Step}
 use Rattle.run.specs.declared.Step.the-variants.{Delay, TickOf, SendOf}
 use Rattle.run.specs.State.{freshRun, node, isWaiting, isAbout, inRange, outOfStep}
-use Rattle.run.specs.Moves.{modeAfter, moved}
-use Rattle.run.specs.Steps.{stepNumber}
+use Rattle.run.specs.Moves.{guardEnds, modeAfter, moved}
+use Rattle.run.specs.Steps.{isDelay, isTickOf, stepNumber}
 use Rattle.shown.specs.declared.Mark.{Mark}
 use Rattle.shown.specs.declared.Mark.the-variants.{Before, In, After}
 use Rattle.shown.specs.declared.Place.{Place}
@@ -92,20 +92,13 @@ nextStep P c q =
 abbrev pub pivotNext : Plan → Parts → Run → Bool
 pivotNext P c r =
     isWaiting (node r (c .sender .0) .mode)
-    && eqb (node r (c .sender .0) .slot .0) (c .p .0)
-    && eqb (node r (c .sender .0) .clock .0 + 1) (P .guard .0)
+    && guardEnds P (c .p .0) (node r (c .sender .0) .clock .0) (node r (c .sender .0) .slot .0)
 
 -- The mark after a step: "in" with a delay while the pivot is next, "after" with the fast node's tick in the pivot.
 unfoldable pub markAfter : Plan → Parts → Run → Mark → Step → Mark
-markAfter P c r Before (Delay d) = cond (pivotNext P c r) In Before
-markAfter P c r Before (TickOf i) = Before
-markAfter P c r Before (SendOf i) = Before
-markAfter P c r In (Delay d) = In
-markAfter P c r In (TickOf i) = cond (eqb (i .0) (c .fast .0)) After In
-markAfter P c r In (SendOf i) = In
-markAfter P c r After (Delay d) = After
-markAfter P c r After (TickOf i) = After
-markAfter P c r After (SendOf i) = After
+markAfter P c r Before s = cond (isDelay s && pivotNext P c r) In Before
+markAfter P c r In s = cond (isTickOf (c .fast .0) s) After In
+markAfter P c r After s = After
 
 -- The place after a step.
 abbrev pub placeAfter : Plan → Parts → Place → Step → Place
