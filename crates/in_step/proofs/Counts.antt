@@ -8,6 +8,7 @@ use native.Mathlib.Omega.{arith}
 use borrow.Author.Tests.{le-ltb, ne-eqb, eq-eqb}
 use lib.Dec.{eqb, ltb}
 use Rattle.laws.specs.Ring.{distance}
+use Rattle.laws.proofs.Digits.{same-slot}
 use Rattle.plan.specs.declared.Plan.{Plan}
 use Rattle.plan.specs.declared.Slot.{Slot}
 use Rattle.plan.specs.Tested.{Sound}
@@ -18,7 +19,7 @@ use Rattle.run.specs.declared.Last.{Last}
 use Rattle.run.specs.declared.Last.the-variants.{At, Nothing}
 use Rattle.run.specs.declared.NodeState.{NodeState}
 use Rattle.run.specs.Reckoning.{ticksFrom, reckoning, belowZero}
-use Rattle.in_step.proofs.Numbers.{live-most, live-least, same-slot}
+use Rattle.in_step.proofs.Numbers.{live-most, live-least}
 use Rattle.in_step.proofs.Invariant.{phaseOf, KnowsOf, CaseOf, Good, ticksOf, Short, Sent, Holds}
 use Rattle.in_step.proofs.OneNode.{stateOf, knows-of, ticks-here}
 use Rattle.in_step.proofs.Phases.{due-of, due-one}

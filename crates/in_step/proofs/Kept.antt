@@ -7,6 +7,8 @@ use mathlib.Core.List.{List, [], _∷_}
 use lib.ListN.{length}
 use native.Mathlib.Decide.{ℕ-discrete}
 use native.Mathlib.Omega.{arith}
+use Rattle.laws.proofs.Digits.{slots-some}
+use Rattle.laws.proofs.Ring.{end-to-start}
 use Rattle.plan.specs.declared.Plan.{Plan}
 use Rattle.plan.specs.Sending.{own}
 use Rattle.plan.specs.Tested.{planNumber, Sound}
@@ -22,12 +24,12 @@ use Rattle.run.specs.Steps.{stepOf, Legal, runAfter}
 use Rattle.run.specs.Reckoning.{ticksFrom, timeSince}
 use Rattle.run.proofs.Nodes.{room-fresh, node-fresh, room-moved, node-delayed, node-ticked, node-still, node-sender, node-hearing}
 use Rattle.run.proofs.Legal.{DelayLegal, TickLegal, SendLegal, legal-step, done-step}
-use Rattle.in_step.proofs.Numbers.{live-start, slots-some}
+use Rattle.in_step.proofs.Numbers.{live-start}
 use Rattle.in_step.proofs.Invariant.{Phase, phaseOf, Good, Short, Inv, Holds}
 use Rattle.in_step.proofs.OneNode.{away-none, tick-good, delay-good}
 use Rattle.in_step.proofs.Moment.{due-turn, all-short, gathered}
 use Rattle.in_step.proofs.Message.{AboutHere, about-here, sender-good, hearer-good}
-use Rattle.in_step.proofs.Phases.{lead-own, lead-other, end-to-start, due-of}
+use Rattle.in_step.proofs.Phases.{lead-own, lead-other, due-of}
 
 module _ (P : Plan) (S : Sound P) (A : RulesHold P) where
   -- in any state no node's count is at the last tick of slot D: some node's turn there is next

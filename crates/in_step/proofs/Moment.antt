@@ -8,13 +8,14 @@ use native.Mathlib.Decide.{ℕ-discrete}
 use native.Mathlib.Omega.{arith}
 use Rattle.laws.specs.Ring.{distance}
 use Rattle.laws.proofs.Ring.{distance-same, distance-self}
+use Rattle.laws.proofs.Digits.{same-slot, slots-some}
 use Rattle.plan.specs.declared.Plan.{Plan}
 use Rattle.plan.specs.Sending.{own}
 use Rattle.plan.specs.Tested.{Sound}
 use Rattle.run.specs.declared.Mode.{Mode}
 use Rattle.run.specs.declared.Mode.the-variants.{Waiting, AboutToSend, Sending}
 use Rattle.run.specs.declared.NodeState.{NodeState}
-use Rattle.in_step.proofs.Numbers.{Live, not-yet, rule1-brings, rule2-keeps, rule3-keeps, same-slot, slots-some}
+use Rattle.in_step.proofs.Numbers.{Live, not-yet, rule1-brings, rule2-keeps, rule3-keeps}
 use Rattle.in_step.proofs.Invariant.{Phase, KnowsOf, AboutsOf, SendsOf, CaseOf, Good, ticksOf, Short, Holds}
 use Rattle.in_step.proofs.OneNode.{knows-of, ticks-here, not-next}
 

@@ -68,20 +68,3 @@ module _ (min max : ℕ) where
       let q : (c + t + 1) * max ≤ k * max = mul-le-mul-right max h′ in
       let q′ : l * min ≤ (g + 1) * min = mul-le-mul-right min h in
       lt-of-mul-lt-mul-right min (omega arith)
-
--- a count as slots and a clock
-
--- a count within slot D is a count of D slots
-pub same-slot : (d D k c : ℕ) → D * k ≤ d * k + c → c < k → d * k + c < D * k + k → d ≡ D
-same-slot d D k c h hc h′ =
-    let a : d < D + 1 = lt-of-mul-lt-mul-right k (omega arith) in
-    let b : D < d + 1 = lt-of-mul-lt-mul-right k (omega arith) in
-    omega arith
-
--- a count short of the end of slot D is one of at most D slots
-pub slot-within : (d D k c : ℕ) → d * k + c < D * k + k → d ≤ D
-slot-within d D k c h = let a : d < D + 1 = lt-of-mul-lt-mul-right k (omega arith) in omega arith
-
--- one slot is at most D of them
-pub slots-some : (D k : ℕ) → 1 ≤ D → k ≤ D * k
-slots-some D k h = let q : 1 * k ≤ D * k = mul-le-mul-right k h in omega arith

@@ -8,6 +8,7 @@ use native.Mathlib.Omega.{arith}
 use Rattle.laws.specs.Ring.{distance}
 use Rattle.laws.proofs.Bools.{clash}
 use Rattle.laws.proofs.Ring.{distance-next, distance-same, distance-self, next-below}
+use Rattle.laws.proofs.Digits.{same-slot, slot-within, slots-some}
 use Rattle.plan.specs.declared.Plan.{Plan}
 use Rattle.plan.specs.Tested.{Sound}
 use Rattle.run.specs.declared.Mode.{Mode}
@@ -17,7 +18,7 @@ use Rattle.run.specs.State.{isAbout}
 use Rattle.run.specs.Moves.{clockAfter, slotAfter, modeAfter, nodeTicked, nodeDelayed}
 use Rattle.run.specs.Reckoning.{ticksFrom}
 use Rattle.run.proofs.Outcomes.{clock-heard, clock-on, clock-round, mode-turns, mode-elsewhere, mode-waits, mode-ends, mode-sends, slot-moves, slot-stays, slot-sending}
-use Rattle.in_step.proofs.Numbers.{live-tick, live-heard, live-delay, same-slot, slot-within, slots-some}
+use Rattle.in_step.proofs.Numbers.{live-tick, live-heard, live-delay}
 use Rattle.in_step.proofs.Invariant.{Phase, Knows, Heard, Waits, Abouts, Sends, Case, KnowsOf, CaseOf, Good, Short, Holds}
 
 -- The state of a node, from its parts.

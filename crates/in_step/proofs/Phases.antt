@@ -8,7 +8,7 @@ use borrow.Author.Tests.{eq-eqb, ne-eqb}
 use lib.Dec.{eqb}
 use Rattle.laws.specs.Ring.{distance}
 use Rattle.laws.proofs.Bools.{cond-by}
-use Rattle.laws.proofs.Ring.{round, distance-is}
+use Rattle.laws.proofs.Ring.{end-below, end-to-start}
 use Rattle.plan.specs.declared.Plan.{Plan}
 use Rattle.plan.specs.declared.Slot.{Slot}
 use Rattle.plan.specs.Sending.{own}
@@ -31,12 +31,6 @@ module _ (P : Plan) (q : Slot) where
   lead-other w n = rw (ne-eqb w (q .0) n)
 
 -- from the end of the frame
-
-pub end-below : (C : ℕ) → 1 ≤ C → C - 1 < C
-end-below C h = omega arith
-
-pub end-to-start : (C : ℕ) → 2 ≤ C → distance C (C - 1) 0 ≡ 1
-end-to-start C h = distance-is C (C - 1) 0 1 (omega arith) (omega arith) (omega arith) (round (omega arith))
 
 module _ (P : Plan) (S : Sound P) (A : RulesHold P) where
   due-at : (p o : ℕ) (lead : ℕ → ℕ) → p < P .frame .0 → P .guard .0 ≤ o → ((w : ℕ) → o ≤ lead w) → ((w : ℕ) → lead w ≤ o + 1)

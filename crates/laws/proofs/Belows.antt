@@ -142,6 +142,21 @@ first-passes n i f l e = go (firstBelow n f) (first-found n f)
     go k (found a b c) = (a, b)
     go k (none a b) = clash (f i) e (b i l)
 
+-- the first number below n that passes, by whether it is below n
+pub first-is : (n : ℕ) (f : ℕ → Bool) → ltb (firstBelow n f) n ≡ true → f (firstBelow n f) ≡ true
+first-is n f h = go (firstBelow n f) (first-found n f) (ltb-true (firstBelow n f) n h)
+  where
+    go : (i : ℕ) → Found n f i → i < n → f i ≡ true
+    go i (found l t b) m = t
+    go i (none e b) m = absurd (omega arith)
+
+pub first-is-none : (n : ℕ) (f : ℕ → Bool) → ltb (firstBelow n f) n ≡ false → (j : ℕ) → j < n → f j ≡ false
+first-is-none n f h = go (firstBelow n f) (first-found n f) (ltb-false (firstBelow n f) n h)
+  where
+    go : (i : ℕ) → Found n f i → n ≤ i → (j : ℕ) → j < n → f j ≡ false
+    go i (found l t b) m = absurd (omega arith)
+    go i (none e b) m = b
+
 -- no number before the first passes; one more place looked at
 pub before-more : (f : ℕ → Bool) (i : ℕ) → ((j : ℕ) → j < i → f j ≡ false) → f i ≡ false → (j : ℕ) → j < i + 1 → f j ≡ false
 before-more f i h e j l = go (ℕ-discrete j i)

@@ -67,3 +67,8 @@ false-not-true false h = clash true refl h
 pub cond-by : {A : Type 0} (P : A → Type 0) (t : Bool) (a b : A) → (t ≡ true → P a) → (t ≡ false → P b) → P (cond t a b)
 cond-by P true a b f g = f refl
 cond-by P false a b f g = g refl
+
+-- a truth value that cannot be true is false
+pub not-so : (b : Bool) → (b ≡ true → ⊥) → b ≡ false
+not-so true h = absurd (h refl)
+not-so false h = refl

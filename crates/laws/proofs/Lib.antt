@@ -5,3 +5,5 @@ pub mod Belows
 pub mod Overs
 pub mod Products
 pub mod Ring
+pub mod Sums
+pub mod Digits

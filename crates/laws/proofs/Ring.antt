@@ -74,3 +74,13 @@ distance-next C p s hp hs h =
     go (on a) (round b) = round (omega arith)
     go (round a) (on b) = round (omega arith)
     go (round a) (round b) = on (omega (arith, next-below C s (omega arith)))
+
+-- from the first place, and from the last to the first
+pub from-0 : (C s : ℕ) → s < C → distance C 0 s ≡ s
+from-0 C s h = distance-is C 0 s s (omega arith) h h (on (omega arith))
+
+pub end-below : (C : ℕ) → 1 ≤ C → C - 1 < C
+end-below C h = omega arith
+
+pub end-to-start : (C : ℕ) → 2 ≤ C → distance C (C - 1) 0 ≡ 1
+end-to-start C h = distance-is C (C - 1) 0 1 (omega arith) (omega arith) (omega arith) (round (omega arith))

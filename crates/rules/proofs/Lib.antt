@@ -1,2 +1,3 @@
 pub mod Distances
+pub mod Failing
 pub mod Stars

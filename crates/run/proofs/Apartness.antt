@@ -1,19 +1,24 @@
 -- The lowest sending node decides whether a run is out of step: where every node is in its slot, nobody is elsewhere for any other sender.
 use Prim.Native.Nat.{ℕ, _≤_, _<_}
 use mathlib.Core.Path.{_≡_, refl, sym, ap, _∙_}
+use mathlib.Core.Logic.{_≢_}
 use mathlib.Core.Bool.{Bool, true, false, cond, not, _&&_}
 use native.Mathlib.Omega.{arith}
-use borrow.Author.Tests.{eqb-true, eq-eqb}
+use borrow.Author.Tests.{eqb-true, eq-eqb, ne-eqb}
 use lib.Dec.{eqb}
+use lib.ListN.{length}
 use Rattle.laws.specs.Below.{anyBelow, firstBelow}
 use Rattle.laws.proofs.Bools.{and-both, false-not-true}
 use Rattle.laws.proofs.Belows.{any-found, any-never, Found, found, none, first-found, first-at}
 use Rattle.plan.specs.declared.Plan.{Plan}
 use Rattle.plan.specs.declared.Node.{Node}
+use Rattle.plan.specs.Sending.{own}
 use Rattle.run.specs.declared.Run.{Run}
 use Rattle.run.specs.declared.Apart.{Apart}
 use Rattle.run.specs.declared.Apart.the-variants.{InStep, Out, Refused}
 use Rattle.run.specs.State.{node, isSending, elsewhere, sendsApart, outOfStep, senderApart, apartOf}
+use Rattle.run.specs.Moves.{nodeTicked, ticked, sent}
+use Rattle.run.proofs.Nodes.{node-ticked, node-still, node-sender, node-hearing}
 
 -- what is told by the answer alone
 abbrev pub isOut : Apart → Bool
@@ -88,3 +93,22 @@ module _ (P : Plan) (r : Run) where
           rw (any-found (P .nodes .0) i (sendsApart P r) a yes, sender, ← q)
       first (found a b c) (none d e) = absurd (omega arith)
       first (none a b) w = absurd (omega arith)
+
+-- a node that sends and a node in another slot: out of step
+pub out-is : (P : Plan) (r : Run) (i j : ℕ) → i < P .nodes .0 → j < P .nodes .0 → isSending (node r i .mode) ≡ true → node r j .slot .0 ≢ node r i .slot .0 → outOfStep P r ≡ true
+unfolding outOfStep sendsApart
+out-is P r i j hi hj s n =
+    any-found (P .nodes .0) i (sendsApart P r) hi
+    (and-both (isSending (node r i .mode)) (anyBelow (P .nodes .0) (elsewhere r i)) s (any-found (P .nodes .0) j (elsewhere r i) hj (ap not (ne-eqb (node r j .slot .0) (node r i .slot .0) n))))
+
+-- a send while another node is in another slot, and a tick to another slot than a sending node's
+module _ (P : Plan) (r : Run) (room : P .nodes .0 ≤ length (r .nodes)) (i j : ℕ) (hi : i < P .nodes .0) (hj : j < P .nodes .0) (n : j ≢ i) where
+  pub send-apart : node r j .slot .0 ≢ node r i .slot .0 → outOfStep P (sent P i r) ≡ true
+  send-apart d =
+      out-is P (sent P i r) i j hi hj (rw (node-sender P r i hi (omega arith)))
+      (rw (node-sender P r i hi (omega arith), node-hearing P r i j hj (omega arith) n) d)
+
+  pub tick-apart : isSending (node r j .mode) ≡ true → nodeTicked P (own P i) (node r i) .slot .0 ≢ node r j .slot .0 → outOfStep P (ticked P i r) ≡ true
+  tick-apart s d =
+      out-is P (ticked P i r) j i hj hi (rw (node-still P r i j n) s)
+      (rw (node-still P r i j n, node-ticked P r i (omega arith)) d)

@@ -1,17 +1,15 @@
 -- The parts that a failed rule's run is played with: from the plan and its verdict to facts on numbers.
-use Prim.Native.Nat.{ℕ, _+_, _*_, _-_, _≤_, _<_}
+use Prim.Native.Nat.{ℕ, _-_, _≤_, _<_}
 use mathlib.Core.Path.{_≡_, refl, sym, ap, _∙_}
 use mathlib.Core.Logic.{_≢_}
-use mathlib.Core.Bool.{Bool, true, false, cond, _&&_}
-use native.Mathlib.Nat.{mul-le-mul-right}
+use mathlib.Core.Bool.{Bool, true, false, _&&_}
 use native.Mathlib.Omega.{arith}
-use borrow.Author.Tests.{eqb-true, eqb-false, eq-eqb, ne-eqb, ltb-false}
+use borrow.Author.Tests.{eqb-true, eqb-false, eq-eqb, ne-eqb}
 use lib.Dec.{eqb}
 use Rattle.laws.specs.Below.{firstBelow}
 use Rattle.laws.specs.Ring.{distance}
 use Rattle.laws.proofs.Bools.{and-true-left, and-true-right, true-not-false}
 use Rattle.laws.proofs.Belows.{first-passes, largest-reached, least-under, least-reached}
-use Rattle.laws.proofs.Products.{sub-mul}
 use Rattle.plan.specs.declared.Plan.{Plan}
 use Rattle.plan.specs.Sending.{own, sends}
 use Rattle.plan.specs.Tested.{Sound}
@@ -23,45 +21,12 @@ use Rattle.gap.proofs.Back.{before-own}
 use Rattle.gap.proofs.Bounds.{gap-low}
 use Rattle.rules.specs.declared.Rule.{Rule}
 use Rattle.rules.specs.declared.Rule.the-variants.{One, Two, Three}
-use Rattle.rules.specs.declared.Sides.{Sides}
-use Rattle.rules.specs.declared.Outcome.the-variants.{Accepted, Fails}
-use Rattle.rules.specs.Rules.{sidesAt, holds, outcomeBy, verdictAt, verdictOf}
+use Rattle.rules.specs.declared.Outcome.the-variants.{Fails}
+use Rattle.rules.specs.Rules.{sidesAt, verdictAt, verdictOf}
+use Rattle.rules.proofs.Failing.{named, one-fails, two-fails, three-fails}
 use Rattle.shown.specs.declared.Parts.{Parts}
 use Rattle.shown.specs.Parts.{predecessorAt, widestFrom, widestNode, senderIn, silentIn, partsWith, partsFor}
 use Rattle.shown.proofs.Roles.{Roles, farOf, Failure, one, two, three, far-away}
-
--- the rule that the verdict names does not hold
-
-named : (s : Rule → Sides) (rule : Rule) → outcomeBy (s One) (s Two) (s Three) ≡ Fails rule → s rule .right ≤ s rule .left
-unfolding outcomeBy
-named s rule h = ltb-false (s rule .left) (s rule .right) (go (holds (s One)) refl (holds (s Two)) refl (holds (s Three)) refl h)
-  where
-    go : (a : Bool) → holds (s One) ≡ a → (b : Bool) → holds (s Two) ≡ b → (c : Bool) → holds (s Three) ≡ c
-        → cond a (cond b (cond c Accepted (Fails Three)) (Fails Two)) (Fails One) ≡ Fails rule → holds (s rule) ≡ false
-    go false e b x c y h = let z : One ≡ rule = cc in rw z at e
-    go true e false x c y h = let z : Two ≡ rule = cc in rw z at x
-    go true e true x false y h = let z : Three ≡ rule = cc in rw z at y
-    go true e true x true y h = absurd (let z : _≡_ {A = ℕ} 0 1 = cc in omega arith)
-
--- each rule that does not hold, without subtraction
-module _ (k g min max : ℕ) where
-  one-fails : (m : ℕ) → 1 ≤ m → 1 ≤ g → g ≤ k → (m * k - 1) * min ≤ (m * k - g) * max → m * k * min + g * max ≤ m * k * max + min
-  one-fails m hm h1 hg r =
-      let away : 1 * k ≤ m * k = mul-le-mul-right k hm in
-      omega (arith, sub-mul (m * k) g max (omega arith), sub-mul (m * k) 1 min (omega arith))
-
-  two-fails : (m : ℕ) → g + 2 ≤ k → ((m + 1) * k - g - 2) * min ≤ m * k * max → (m + 1) * k * min ≤ m * k * max + (g + 2) * min
-  two-fails m h r =
-      let q : (m + 1) * k - g - 2 ≡ (m + 1) * k - (g + 2) = omega arith in
-      let r′ : ((m + 1) * k - (g + 2)) * min ≤ m * k * max = rw q at r in
-      omega (arith, sub-mul ((m + 1) * k) (g + 2) min (omega arith))
-
-  three-fails : (t : ℕ) → g + t + 2 ≤ k → (k - g - 1) * min ≤ (k - g - t) * max → k * min + (g + t) * max ≤ k * max + (g + 1) * min
-  three-fails t h r =
-      let q : k - g - t ≡ k - (g + t) = omega arith in
-      let q′ : k - g - 1 ≡ k - (g + 1) = omega arith in
-      let r′ : (k - (g + 1)) * min ≤ (k - (g + t)) * max = rw (q′, q) at r in
-      omega (arith, sub-mul k (g + t) max (omega arith), sub-mul k (g + 1) min (omega arith))
 
 module _ (P : Plan) (o : Sound P) where
   -- the sender of a slot in which somebody sends

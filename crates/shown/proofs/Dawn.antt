@@ -9,9 +9,9 @@ use native.Mathlib.Omega.{arith}
 use borrow.Author.Tests.{eqb-true, eq-eqb, ne-eqb, lt-ltb}
 use lib.Dec.{eqb, ltb}
 use lib.ListN.{length}
-use Rattle.laws.proofs.Bools.{clash, and-true-left, and-true-right, or-true-right, true-not-false}
+use Rattle.laws.proofs.Bools.{clash, and-true-left, and-true-right, or-true-right, true-not-false, not-so}
 use Rattle.laws.specs.Ring.{distance}
-use Rattle.laws.proofs.Ring.{distance-self}
+use Rattle.laws.proofs.Ring.{distance-self, from-0}
 use Rattle.plan.specs.declared.Plan.{Plan}
 use Rattle.plan.specs.Sending.{own}
 use Rattle.plan.specs.Tested.{Sound}
@@ -27,12 +27,12 @@ use Rattle.shown.specs.declared.Mark.the-variants.{In}
 use Rattle.shown.specs.declared.Place.{Place}
 use Rattle.shown.specs.declared.Parts.{Parts}
 use Rattle.shown.specs.Shown.{turns, dueTime, goesFirst, goesSecond, pivotNext}
-use Rattle.shown.proofs.Play.{not-so, OnTime, SendMove, TickMove, DelayMove, Turn, goes-first, goes-second, goes-third}
+use Rattle.shown.proofs.Play.{OnTime, SendMove, TickMove, DelayMove, Turn, goes-first, goes-second, goes-third}
 use Rattle.shown.proofs.Progress.{bump, bump-same, bump-other}
 use Rattle.shown.proofs.Stands.{busy-at-own, Stands, away, tick-stands, at-place, about-at, sending-at, waits-away, waits-early, send-stands, hear-stands}
 use Rattle.shown.proofs.Roles.{Roles, farOf, pivot-in-frame, far-away, sender-not-fast}
 use Rattle.shown.proofs.Wall.{Slow, Wall, still-silent}
-use Rattle.shown.proofs.Rounds.{about-ticked, earlier, pivotCount, Turned, done, due, Round, Early, at-count, from-0, round-time, due-lacks, early-done, round-tick, pivot-short, all-done, round-on}
+use Rattle.shown.proofs.Rounds.{about-ticked, earlier, pivotCount, Turned, done, due, Round, Early, at-count, round-time, due-lacks, early-done, round-tick, pivot-short, all-done, round-on}
 
 -- the place in the pivot with the run r
 abbrev pub within : Run → Place

@@ -8,6 +8,7 @@ use native.Mathlib.Decide.{ℕ-discrete, decLe}
 use native.Mathlib.Omega.{arith}
 use lib.ListN.{length}
 use Rattle.laws.proofs.Ring.{distance-self}
+use Rattle.laws.proofs.Bools.{not-so}
 use Rattle.plan.specs.declared.Plan.{Plan}
 use Rattle.plan.specs.Sending.{own}
 use Rattle.plan.specs.Tested.{Sound}
@@ -18,11 +19,12 @@ use Rattle.run.specs.declared.Step.the-variants.{Delay, TickOf, SendOf}
 use Rattle.run.specs.State.{node, isAbout, outOfStep}
 use Rattle.run.specs.Moves.{nodeHearing, moved, ticked, sent}
 use Rattle.run.proofs.Nodes.{node-still, node-sender, node-hearing}
+use Rattle.run.proofs.Apartness.{out-is, send-apart}
 use Rattle.shown.specs.declared.Parts.{Parts}
-use Rattle.shown.proofs.Play.{not-so, OnTime, SendMove, TickMove, Move}
+use Rattle.shown.proofs.Play.{OnTime, SendMove, TickMove, Move}
 use Rattle.shown.proofs.Progress.{bump, bump-same, bump-other, all-sent, counted, Unless, over, on}
 use Rattle.shown.proofs.Stands.{busy-at-own, at-place, before-slot, past-slot, about-at, about-count, waits-away, busy}
-use Rattle.shown.proofs.Roles.{far-fits, Roles, farOf, FailsOne, FailsTwo, FailsThree, Failure, one, two, three, pivot-in-frame, far-away, far-same, sender-not-fast, out-is, send-apart}
+use Rattle.shown.proofs.Roles.{far-fits, Roles, farOf, FailsOne, FailsTwo, FailsThree, Failure, one, two, three, pivot-in-frame, far-away, far-same, sender-not-fast}
 use Rattle.shown.proofs.Wall.{later, due-fast, Slow, Wall, slow-about, behind, short, wall-on-time, wall-delay, wall-fast, wall-slow}
 use Rattle.shown.proofs.Tail.{Beside, still-due, rests, Tail, tail-short, tail-on-time, tail-send, tail-out, tail-slow, tail-delay}
 

@@ -1,5 +1,4 @@
 pub mod Worked
-pub mod Sums
 pub mod Play
 pub mod Giving
 pub mod Progress

@@ -1,13 +1,13 @@
 -- Which step of the shown run is next, and why: where no time is past due, it is legal.
 use Prim.Native.Nat.{ℕ, _+_, _-_, _≤_, _<_}
-use mathlib.Core.Path.{_≡_, refl}
+use mathlib.Core.Path.{_≡_}
 use mathlib.Core.Bool.{Bool, true, false, _&&_}
 use native.Mathlib.Omega.{arith}
-use borrow.Author.Tests.{ltb-true, ltb-false, eqb-true, eqb-false, le-ltb, eq-eqb}
+use borrow.Author.Tests.{ltb-true, eqb-true, eqb-false, le-ltb, eq-eqb}
 use lib.Dec.{eqb, ltb}
 use Rattle.laws.specs.Below.{firstBelow}
 use Rattle.laws.proofs.Bools.{and-true-left, and-true-right, cond-by}
-use Rattle.laws.proofs.Belows.{Found, found, none, first-found, any-never, least-under, least-reached}
+use Rattle.laws.proofs.Belows.{any-never, least-under, least-reached, first-is, first-is-none}
 use Rattle.plan.specs.declared.Plan.{Plan}
 use Rattle.plan.specs.Tested.{Sound}
 use Rattle.run.specs.declared.Step.{Step}
@@ -19,26 +19,6 @@ use Rattle.shown.specs.declared.Mark.the-variants.{Before, In, After}
 use Rattle.shown.specs.declared.Place.{Place}
 use Rattle.shown.specs.declared.Parts.{Parts}
 use Rattle.shown.specs.Shown.{dueTime, isDue, pastDue, goesFirst, goesSecond, lowestAbout, lowestFirst, lowestSecond, lowestDue, timeToDue, nextStep}
-
--- a truth value that cannot be true is false
-pub not-so : (b : Bool) → (b ≡ true → ⊥) → b ≡ false
-not-so true h = absurd (h refl)
-not-so false h = refl
-
--- the first number below n that passes, by whether it is below n
-pub first-is : (n : ℕ) (f : ℕ → Bool) → ltb (firstBelow n f) n ≡ true → f (firstBelow n f) ≡ true
-first-is n f h = go (firstBelow n f) (first-found n f) (ltb-true (firstBelow n f) n h)
-  where
-    go : (i : ℕ) → Found n f i → i < n → f i ≡ true
-    go i (found l t b) m = t
-    go i (none e b) m = absurd (omega arith)
-
-pub first-is-none : (n : ℕ) (f : ℕ → Bool) → ltb (firstBelow n f) n ≡ false → (j : ℕ) → j < n → f j ≡ false
-first-is-none n f h = go (firstBelow n f) (first-found n f) (ltb-false (firstBelow n f) n h)
-  where
-    go : (i : ℕ) → Found n f i → n ≤ i → (j : ℕ) → j < n → f j ≡ false
-    go i (found l t b) m = absurd (omega arith)
-    go i (none e b) m = b
 
 -- nobody is about to send
 abbrev pub Quiet : Plan → Place → Type 0

@@ -12,6 +12,7 @@ use borrow.Author.Tests.{eq-eqb, ne-eqb}
 use lib.Dec.{eqb}
 use lib.ListN.{length}
 use Rattle.laws.proofs.Bools.{clash, cond-by}
+use Rattle.laws.proofs.Sums.{sumBelow, sum-same, sum-but-one, sum-within}
 use Rattle.plan.specs.declared.Plan.{Plan}
 use Rattle.plan.specs.declared.Node.{Node}
 use Rattle.plan.specs.declared.Time.{Time}
@@ -38,7 +39,6 @@ use Rattle.shown.specs.declared.Given.{Given}
 use Rattle.shown.specs.declared.Next.the-variants.{Takes, Finished}
 use Rattle.shown.specs.Shown.{dueTime, pivotNext, nextStep, markAfter, placeAfter, stays, givenBy, givenOf, placeAt, shownSteps}
 use Rattle.shown.specs.Ends.{ticksIn}
-use Rattle.shown.proofs.Sums.{sumBelow, sum-same, sum-but-one, sum-within}
 use Rattle.shown.proofs.Play.{OnTime, TickMove, DelayMove, Move, on-time, next-move, move-legal}
 use Rattle.shown.proofs.Giving.{given-stops, given-takes}
 

@@ -1,25 +1,15 @@
 -- What the parts of a shown run are like, and how a rule fails, as facts on numbers.
 use Prim.Native.Nat.{ℕ, _+_, _*_, _≤_, _<_}
-use mathlib.Core.Path.{_≡_, sym, ap, _∙_}
+use mathlib.Core.Path.{_≡_, sym, _∙_}
 use mathlib.Core.Logic.{_≢_}
-use mathlib.Core.Bool.{true, not}
 use native.Mathlib.Decide.{ℕ-discrete}
 use native.Mathlib.Omega.{arith}
-use borrow.Author.Tests.{ne-eqb}
-use lib.ListN.{length}
-use Rattle.laws.specs.Below.{anyBelow}
 use Rattle.laws.specs.Ring.{distance}
-use Rattle.laws.proofs.Bools.{and-both}
-use Rattle.laws.proofs.Belows.{any-found}
 use Rattle.laws.proofs.Ring.{distance-same, distance-self, distance-below}
 use Rattle.plan.specs.declared.Plan.{Plan}
 use Rattle.plan.specs.Sending.{own}
 use Rattle.plan.specs.Tested.{Sound}
 use Rattle.plan.proofs.Sound.{own-in-frame}
-use Rattle.run.specs.declared.Run.{Run}
-use Rattle.run.specs.Moves.{nodeTicked, ticked, sent}
-use Rattle.run.proofs.Nodes.{node-ticked, node-still, node-sender, node-hearing}
-use Rattle.run.specs.State.{node, isSending, elsewhere, sendsApart, outOfStep}
 use Rattle.shown.specs.declared.Parts.{Parts}
 use Rattle.shown.proofs.Stands.{slot-fits}
 
@@ -81,22 +71,3 @@ module _ {P : Plan} {c : Parts} (o : Sound P) (R : Roles P c) where
 
 pub sender-not-fast : {P : Plan} {c : Parts} → Roles P c → c .sender .0 ≢ c .fast .0
 sender-not-fast R e = R .fast-away (rw e at (R .sender-own))
-
--- a node that sends and a node in another slot: out of step
-pub out-is : (P : Plan) (r : Run) (i j : ℕ) → i < P .nodes .0 → j < P .nodes .0 → isSending (node r i .mode) ≡ true → node r j .slot .0 ≢ node r i .slot .0 → outOfStep P r ≡ true
-unfolding outOfStep sendsApart
-out-is P r i j hi hj s n =
-    any-found (P .nodes .0) i (sendsApart P r) hi
-    (and-both (isSending (node r i .mode)) (anyBelow (P .nodes .0) (elsewhere r i)) s (any-found (P .nodes .0) j (elsewhere r i) hj (ap not (ne-eqb (node r j .slot .0) (node r i .slot .0) n))))
-
--- a send while another node is in another slot, and a tick to another slot than a sending node's
-module _ (P : Plan) (r : Run) (room : P .nodes .0 ≤ length (r .nodes)) (i j : ℕ) (hi : i < P .nodes .0) (hj : j < P .nodes .0) (n : j ≢ i) where
-  pub send-apart : node r j .slot .0 ≢ node r i .slot .0 → outOfStep P (sent P i r) ≡ true
-  send-apart d =
-      out-is P (sent P i r) i j hi hj (rw (node-sender P r i hi (omega arith)))
-      (rw (node-sender P r i hi (omega arith), node-hearing P r i j hj (omega arith) n) d)
-
-  pub tick-apart : isSending (node r j .mode) ≡ true → nodeTicked P (own P i) (node r i) .slot .0 ≢ node r j .slot .0 → outOfStep P (ticked P i r) ≡ true
-  tick-apart s d =
-      out-is P (ticked P i r) j i hj hi (rw (node-still P r i j n) s)
-      (rw (node-still P r i j n, node-ticked P r i (omega arith)) d)

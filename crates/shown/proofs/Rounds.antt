@@ -8,7 +8,8 @@ use native.Mathlib.Omega.{arith}
 use lib.ListN.{length}
 use Rattle.laws.specs.Ring.{distance}
 use Rattle.laws.proofs.Bools.{clash, false-not-true}
-use Rattle.laws.proofs.Ring.{on, distance-is, distance-same}
+use Rattle.laws.proofs.Ring.{distance-same, from-0}
+use Rattle.laws.proofs.Digits.{same-digits}
 use Rattle.plan.specs.declared.Plan.{Plan}
 use Rattle.plan.specs.Sending.{own}
 use Rattle.plan.specs.Tested.{Sound}
@@ -24,7 +25,7 @@ use Rattle.shown.specs.declared.Parts.{Parts}
 use Rattle.shown.specs.Shown.{dueTime, turns, goesFirst}
 use Rattle.shown.proofs.Play.{OnTime, Quiet, SendMove, TickMove, DelayMove, Turn, goes-first, goes-second, goes-third}
 use Rattle.shown.proofs.Progress.{bump, bump-same, bump-other, all-ticked, all-delayed, all-sent}
-use Rattle.shown.proofs.Stands.{slot-fits, Stands, same-digits, tick-stands, at-place, about-count, delay-stands, send-stands, hear-stands}
+use Rattle.shown.proofs.Stands.{slot-fits, Stands, tick-stands, at-place, about-count, delay-stands, send-stands, hear-stands}
 use Rattle.shown.proofs.Roles.{Roles, pivot-in-frame}
 
 -- a node in round T with v ticks and the time x
@@ -52,9 +53,6 @@ pub record Early (P : Plan) (c : Parts) (r : Run) (n : ℕ → ℕ) : Type 0 whe
 -- the place before the pivot with the run r
 abbrev pub earlier : Run → Place
 earlier r = record { run = r; mark = Before }
-
-pub from-0 : (C s : ℕ) → s < C → distance C 0 s ≡ s
-from-0 C s h = distance-is C 0 s s (omega arith) h h (on (omega arith))
 
 module _ {P : Plan} (o : Sound P) where
   -- by its count a node is where it should be

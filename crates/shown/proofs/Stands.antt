@@ -10,6 +10,7 @@ use lib.Dec.{ltb}
 use Rattle.laws.specs.Ring.{distance}
 use Rattle.laws.proofs.Bools.{clash}
 use Rattle.laws.proofs.Ring.{distance-same, distance-next, next-below}
+use Rattle.laws.proofs.Digits.{same-digits}
 use Rattle.plan.specs.declared.Plan.{Plan}
 use Rattle.plan.specs.Tested.{Sound}
 use Rattle.run.specs.declared.Mode.{Mode}
@@ -18,14 +19,6 @@ use Rattle.run.specs.declared.NodeState.{NodeState}
 use Rattle.run.specs.State.{isAbout, isSending}
 use Rattle.run.specs.Moves.{nodeTicked, nodeDelayed, nodeSent, nodeHearing}
 use Rattle.run.proofs.Outcomes.{clock-heard, clock-on, clock-round, mode-turns, mode-elsewhere, mode-waits, mode-ends, mode-sends, slot-moves, slot-stays, slot-sending}
-
--- a count of ticks has one number of slots and one clock
-pub same-digits : (d e k c h : ℕ) → c < k → h < k → d * k + c ≡ e * k + h → (d ≡ e) × (c ≡ h)
-same-digits d e k c h hc hh q =
-    let a : d < e + 1 = lt-of-mul-lt-mul-right k (omega arith) in
-    let b : e < d + 1 = lt-of-mul-lt-mul-right k (omega arith) in
-    let s : d ≡ e = omega arith in
-    (s, let z : e * k + c ≡ e * k + h = rw s at q in omega arith)
 
 -- the first g ticks of a slot of the frame fit into the frame
 pub slot-fits : {P : Plan} → Sound P → (s : ℕ) → s < P .frame .0 → s * P .ticks .0 + P .guard .0 < P .frame .0 * P .ticks .0

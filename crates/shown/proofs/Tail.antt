@@ -20,12 +20,13 @@ use Rattle.run.specs.State.{node, isAbout, isSending, outOfStep}
 use Rattle.run.specs.Moves.{nodeDelayed, delayed, ticked}
 use Rattle.run.proofs.Outcomes.{mode-elsewhere, slot-moves}
 use Rattle.run.proofs.Nodes.{node-delayed, node-still}
+use Rattle.run.proofs.Apartness.{tick-apart}
 use Rattle.shown.specs.declared.Mark.the-variants.{After}
 use Rattle.shown.specs.declared.Parts.{Parts}
 use Rattle.shown.specs.Shown.{dueTime}
 use Rattle.shown.proofs.Play.{OnTime, SendMove, TickMove, DelayMove}
 use Rattle.shown.proofs.Progress.{bump, bump-other, all-ticked, all-delayed}
-use Rattle.shown.proofs.Roles.{FailsTwo, Roles, tick-apart}
+use Rattle.shown.proofs.Roles.{FailsTwo, Roles}
 use Rattle.shown.proofs.Wall.{later, due-fast, due-slow, fast-goes-first}
 
 -- node i beside the fast node with the time x: it was due when b sent, or it is not due before the fast node is

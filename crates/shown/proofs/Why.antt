@@ -7,6 +7,7 @@ use native.Mathlib.Decide.{ℕ-discrete}
 use native.Mathlib.Omega.{arith}
 use borrow.Author.Tests.{eq-eqb, ne-eqb}
 use lib.ListN.{length}
+use Rattle.laws.proofs.Ring.{from-0}
 use Rattle.plan.specs.declared.Plan.{Plan}
 use Rattle.plan.specs.Tested.{planNumber, Sound}
 use Rattle.plan.proofs.Sound.{sound}
@@ -33,7 +34,7 @@ use Rattle.shown.proofs.Stands.{early}
 use Rattle.shown.proofs.Roles.{Roles, Failure, one, two, three, pivot-in-frame}
 use Rattle.shown.proofs.Wall.{later}
 use Rattle.shown.proofs.Later.{Besides, Later, walled, later-short, later-on-time, later-keeps}
-use Rattle.shown.proofs.Rounds.{earlier, pivotCount, done, Early, from-0, round-count, pivot-short, early-on-time, early-send, early-tick}
+use Rattle.shown.proofs.Rounds.{earlier, pivotCount, done, Early, round-count, pivot-short, early-on-time, early-send, early-tick}
 use Rattle.shown.proofs.Dawn.{within, Eve, Dawn, pivot-is, pivot-not, early-delay, eve-begins, eve-on-time, eve-delay, not-fast, eve-tick, eve-send, dawn-on-time, dawn-send, dawn-delay, dawn-slow, dawn-fast}
 use Rattle.shown.proofs.Casting.{cast}
 

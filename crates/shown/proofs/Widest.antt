@@ -5,8 +5,6 @@ use mathlib.Core.Bool.{cond}
 use lib.ListN.{getD}
 use lib.Dec.{eqb}
 use Rattle.plan.specs.declared.Plan.{Plan}
-use Rattle.plan.specs.Sending.{own}
-use Rattle.gap.specs.declared.NodeGap.{NodeGap}
 use Rattle.gap.specs.declared.Gaps.{Gaps}
 use Rattle.gap.specs.Gap.{gapOf}
 use Rattle.gap.specs.Gaps.{noGap, gapsOf}
