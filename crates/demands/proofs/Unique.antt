@@ -26,11 +26,11 @@ use Rattle.shown.specs.declared.Given.{Given}
 use Rattle.shown.specs.Parts.{partsFor}
 use Rattle.shown.specs.Shown.{freshPlace, givenBy, givenOf}
 use Rattle.lines.specs.declared.Wrote.{Wrote}
-use Rattle.lines.specs.declared.Reading.{Reading}
+use Rattle.step_lines.specs.declared.Reading.{Reading}
 use Rattle.lines.specs.Written.{wroteOf, bufferOf}
 use Rattle.lines.specs.Out.{judgedText, stepText, answerText, outText, refusedLine}
-use Rattle.lines.specs.In.{lineOf}
-use Rattle.lines.specs.Reading.{readingAfter, lineRead}
+use Rattle.step_lines.specs.StepLine.{lineOf}
+use Rattle.step_lines.specs.Reading.{readingAfter, lineRead}
 use Rattle.demands.specs.Promises.{OneAnswer, OneLeft}
 
 -- a promise that is an equation

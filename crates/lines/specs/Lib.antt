@@ -1,4 +1,2 @@
 pub mod Written
 pub mod Out
-pub mod In
-pub mod Reading

@@ -2,14 +2,14 @@
 // `ok` or `refused` and its number. The plan is tested once; answers are written in blocks.
 use libc::STDIN_FILENO;
 use libc::STDOUT_FILENO;
-use lines::Line;
-use lines::Reading;
 use lines::Wrote;
 use plan::Plan;
 use plan_file::Read;
 use run::Answer;
 use run::Run;
 use run::Stepped;
+use step_lines::Line;
+use step_lines::Reading;
 ghost use mathlib.Core.Path.{_≡_};
 ghost use mathlib.Core.Bool.{true};
 ghost use Prim.Native.Nat.{_<_, _≤_};
@@ -40,7 +40,7 @@ fn scan_line(reading: Reading, block: &[u8], from: usize) -> Scanned
     let mut at = from;
     while at < block.len() {
         let byte = block[at];
-        let more = lines::reading_byte(line, byte);
+        let more = step_lines::reading_byte(line, byte);
         line = more;
         at = at + 1;
         if byte == b'\n' {
@@ -110,7 +110,7 @@ fn block_done(plan: Plan, desk: Desk, block: &[u8], out: &mut [u8]) -> Desk
                 waiting: waiting,
             };
         }
-        let done = answered(plan, run, lines::reading_end(line));
+        let done = answered(plan, run, step_lines::reading_end(line));
         let answer = done.answer;
         waiting = put_answer(out, waiting, answer);
         let moved = done.run;

@@ -16,12 +16,12 @@ go at length room h = by (leb at (length - room)) refl
     by false e = e ∙ sym (lt-leb (at + room) length (omega (arith, leb-false at (length - room) e)))
 
 returns : tie.Need-returns
-returns c = let a = c .before .args in sym (lt-leb (a .at + a .room) (a .length) (omega arith))
+returns c = let a = c .before .args in sym (lt-leb (a .at + a .room) (a .all) (omega arith))
 
 returns-2 : tie.Need-returns-2
 returns-2 c =
     let a = c .before .args in
-    go (a .at) (a .length) (a .room) (c .if1 .left)
+    go (a .at) (a .all) (a .room) (c .if1 .left)
 
 pub has-room-spec : {M : Type 1} → statement M
 has-room-spec = tie.close (tie.spec returns returns-2)

@@ -9,7 +9,7 @@ use Rattle.stepper.proofs.block_done.Statement.{statement}
 use Rattle.stepper.proofs.block_done.Tie as tie
 use Rattle.stepper.proofs.block_done.Reads as reads
 use Rattle.stepper.proofs.block_done.Lts as lts
-use Rattle.lines.proofs.reading_end.Reads as reading-end-reads
+use Rattle.step_lines.proofs.reading_end.Reads as reading-end-reads
 use Rattle.stepper.proofs.answered.Reads as answered-reads
 use Rattle.stepper.proofs.put_answer.Reads as put-answer-reads
 use Rattle.stepper.proofs.scan_line.Reads as scan-line-reads

@@ -6,7 +6,7 @@ use Rattle.stepper.proofs.scan_line.Statement.{statement}
 use Rattle.stepper.proofs.scan_line.Tie as tie
 use Rattle.stepper.proofs.scan_line.Reads as reads
 use Rattle.stepper.proofs.scan_line.Lts as lts
-use Rattle.lines.proofs.reading_byte.Reads as reading-byte-reads
+use Rattle.step_lines.proofs.reading_byte.Reads as reading-byte-reads
 
 abbrev Inv-loop : tie.InvT-loop
 Inv-loop block from line₀ at₀ line at = (from ≤ at) × (at ≤ length block)

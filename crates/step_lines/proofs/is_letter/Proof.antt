@@ -1,7 +1,7 @@
 use Rattle.laws.proofs.Tests.{tests}
-use Rattle.lines.specs.In.{isLetter}
-use Rattle.lines.proofs.is_letter.Statement.{statement}
-use Rattle.lines.proofs.is_letter.Tie as tie
+use Rattle.step_lines.specs.StepLine.{isLetter}
+use Rattle.step_lines.proofs.is_letter.Statement.{statement}
+use Rattle.step_lines.proofs.is_letter.Tie as tie
 
 returns : tie.Need-returns
 unfolding isLetter

@@ -1,14 +1,14 @@
--- A step line read byte by byte, with nothing kept of it but its letter and its number: what In.antt says of the whole line, in one pass.
+-- A step line read byte by byte, with nothing kept of it but its letter and its number: what StepLine.antt says of the whole line, in one pass.
 use Prim.Native.Nat.{ℕ, _+_, _*_, _-_}
 use mathlib.Core.Bool.{cond, not, _&&_}
 use mathlib.Core.List.{List, foldl}
 use lib.Dec.{eqb, leb}
 use Rattle.plan.specs.Refusals.{line-wrong}
-use Rattle.lines.specs.declared.Line.{Line}
-use Rattle.lines.specs.declared.Line.the-variants.{Asks, Refused}
-use Rattle.lines.specs.declared.Reading.{Reading}
-use Rattle.lines.specs.declared.Reading.the-variants.{Nothing, Letter, Blank, Number, Whole, Wrong}
-use Rattle.lines.specs.In.{isDigit, isLetter, stepBy}
+use Rattle.step_lines.specs.declared.Line.{Line}
+use Rattle.step_lines.specs.declared.Line.the-variants.{Asks, Refused}
+use Rattle.step_lines.specs.declared.Reading.{Reading}
+use Rattle.step_lines.specs.declared.Reading.the-variants.{Nothing, Letter, Blank, Number, Whole, Wrong}
+use Rattle.step_lines.specs.StepLine.{isDigit, isLetter, stepBy}
 
 -- A number with one digit more.
 abbrev pub withDigit : (n digit : ℕ) → ℕ

@@ -2,10 +2,10 @@ use mathlib.Core.Path.{sym, _∙_}
 use native.Mathlib.Omega.{arith}
 use borrow.Author.Tests.{ne-eqb, leb-true}
 use Rattle.laws.proofs.Bools.{and-true-left}
-use Rattle.lines.specs.Reading.{readingAfter}
+use Rattle.step_lines.specs.Reading.{readingAfter}
 use borrow.Author.Needs.{needs}
-use Rattle.lines.proofs.reading_byte.Statement.{statement}
-use Rattle.lines.proofs.reading_byte.Tie as tie
+use Rattle.step_lines.proofs.reading_byte.Statement.{statement}
+use Rattle.step_lines.proofs.reading_byte.Tie as tie
 
 enum-told : tie.Need-enum-told
 enum-told c = search needs

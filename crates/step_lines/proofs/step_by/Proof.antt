@@ -1,6 +1,6 @@
 use Rattle.laws.proofs.Tests.{tests}
-use Rattle.lines.proofs.step_by.Statement.{statement}
-use Rattle.lines.proofs.step_by.Tie as tie
+use Rattle.step_lines.proofs.step_by.Statement.{statement}
+use Rattle.step_lines.proofs.step_by.Tie as tie
 
 returns : tie.Need-returns
 returns c = search tests

@@ -1,7 +1,7 @@
 use Rattle.laws.proofs.Tests.{tests}
 use borrow.Author.Needs.{needs}
-use Rattle.lines.proofs.number_after.Statement.{statement}
-use Rattle.lines.proofs.number_after.Tie as tie
+use Rattle.step_lines.proofs.number_after.Statement.{statement}
+use Rattle.step_lines.proofs.number_after.Tie as tie
 
 returns : tie.Need-returns
 returns c = search tests

@@ -3,14 +3,14 @@ use mathlib.Core.List.{[], _∷_}
 use types.Run.{OneOf, miss}
 use denote.Enum.Declared.{tagOf}
 use Rattle.plan.specs.Refusals.{line-wrong}
-use Rattle.lines.specs.Reading.{lineRead}
-use Rattle.lines.specs.declared.Line.the-variants.{Refused}
-use Rattle.lines.specs.declared.Reading.{Reading}
-use Rattle.lines.specs.declared.Reading.the-variants.{Nothing, Letter, Blank, Number, Whole, Wrong}
-use Rattle.lines.proofs.Reading.{the-type}
+use Rattle.step_lines.specs.Reading.{lineRead}
+use Rattle.step_lines.specs.declared.Line.the-variants.{Refused}
+use Rattle.step_lines.specs.declared.Reading.{Reading}
+use Rattle.step_lines.specs.declared.Reading.the-variants.{Nothing, Letter, Blank, Number, Whole, Wrong}
+use Rattle.step_lines.proofs.Reading.{the-type}
 use borrow.Author.Needs.{needs}
-use Rattle.lines.proofs.reading_end.Statement.{statement}
-use Rattle.lines.proofs.reading_end.Tie as tie
+use Rattle.step_lines.proofs.reading_end.Statement.{statement}
+use Rattle.step_lines.proofs.reading_end.Tie as tie
 
 enum-known-reading : tie.Need-enum-known-reading
 enum-known-reading c = search needs

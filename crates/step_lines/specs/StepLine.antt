@@ -8,8 +8,8 @@ use Rattle.laws.specs.Below.{allBelow}
 use Rattle.plan.specs.Refusals.{line-wrong}
 use Rattle.run.specs.declared.Step.{Step}
 use Rattle.run.specs.declared.Step.the-variants.{Delay, TickOf, SendOf}
-use Rattle.lines.specs.declared.Line.{Line}
-use Rattle.lines.specs.declared.Line.the-variants.{Asks, Refused}
+use Rattle.step_lines.specs.declared.Line.{Line}
+use Rattle.step_lines.specs.declared.Line.the-variants.{Asks, Refused}
 
 -- The byte at a place of the line; 0 past its end.
 abbrev pub byteOf : List ℕ → ℕ → ℕ

@@ -13,11 +13,11 @@ use lib.Seq.{drop-cons, drop-length}
 use Rattle.laws.proofs.Bools.{clash, and-true-left, and-true-right, or-either, Either, first-holds, second-holds, cond-by, true-not-false}
 use Rattle.laws.proofs.Belows.{all-at, all-ever}
 use Rattle.plan.specs.Refusals.{line-wrong}
-use Rattle.lines.specs.In.{byteOf, isDigit, isLetter, spelled, digitCount, lineShaped, stepBy, lineOf}
-use Rattle.lines.specs.Reading.{withDigit, readingAfter, readingOf, lineRead}
-use Rattle.lines.specs.declared.Line.the-variants.{Asks, Refused}
-use Rattle.lines.specs.declared.Reading.{Reading}
-use Rattle.lines.specs.declared.Reading.the-variants.{Nothing, Letter, Blank, Number, Whole, Wrong}
+use Rattle.step_lines.specs.StepLine.{byteOf, isDigit, isLetter, spelled, digitCount, lineShaped, stepBy, lineOf}
+use Rattle.step_lines.specs.Reading.{withDigit, readingAfter, readingOf, lineRead}
+use Rattle.step_lines.specs.declared.Line.the-variants.{Asks, Refused}
+use Rattle.step_lines.specs.declared.Reading.{Reading}
+use Rattle.step_lines.specs.declared.Reading.the-variants.{Nothing, Letter, Blank, Number, Whole, Wrong}
 
 -- the number spelled
 

@@ -10,13 +10,13 @@ use Rattle.laws.proofs.Bools.{and-both}
 use Rattle.run.specs.declared.Step.{Step}
 use Rattle.run.specs.declared.Step.the-variants.{Delay, TickOf, SendOf}
 use Rattle.text.specs.Text.{digitsWithin, decimal}
 use Rattle.lines.specs.Out.{stepText}
-use Rattle.lines.specs.In.{isDigit, isLetter, stepBy, lineOf}
-use Rattle.lines.specs.Reading.{withDigit, readingAfter, lineRead}
-use Rattle.lines.specs.declared.Line.the-variants.{Asks}
-use Rattle.lines.specs.declared.Reading.{Reading}
-use Rattle.lines.specs.declared.Reading.the-variants.{Nothing, Blank, Number}
-use Rattle.lines.proofs.ByBytes.{by-bytes}
+use Rattle.step_lines.specs.StepLine.{isDigit, isLetter, stepBy, lineOf}
+use Rattle.step_lines.specs.Reading.{withDigit, readingAfter, lineRead}
+use Rattle.step_lines.specs.declared.Line.the-variants.{Asks}
+use Rattle.step_lines.specs.declared.Reading.{Reading}
+use Rattle.step_lines.specs.declared.Reading.the-variants.{Nothing, Blank, Number}
+use Rattle.step_lines.proofs.ByBytes.{by-bytes}
 
 digit-is : (d : ℕ) → d < 10 → isDigit (48 + d) ≡ true
 digit-is d h = and-both (leb 48 (48 + d)) (leb (48 + d) 57) (le-leb 48 (48 + d) (omega arith)) (le-leb (48 + d) 57 (omega arith))

@@ -1,6 +1,6 @@
 use Rattle.laws.proofs.Tests.{tests}
-use Rattle.lines.proofs.is_digit.Statement.{statement}
-use Rattle.lines.proofs.is_digit.Tie as tie
+use Rattle.step_lines.proofs.is_digit.Statement.{statement}
+use Rattle.step_lines.proofs.is_digit.Tie as tie
 
 returns : tie.Need-returns
 returns c = search tests

@@ -6,11 +6,11 @@ use native.Mathlib.Numerals.{add-one}
 use native.Mathlib.Omega.{arith}
 use lib.ListN.{length, drop}
 use lib.Seq.{drop-cons, drop-length}
-use Rattle.lines.specs.Reading.{readingAfter, readingOf, lineRead}
-use Rattle.lines.proofs.ByBytes.{by-bytes}
+use Rattle.step_lines.specs.Reading.{readingAfter, readingOf, lineRead}
+use Rattle.step_lines.proofs.ByBytes.{by-bytes}
 use borrow.Author.Needs.{needs}
-use Rattle.lines.proofs.read_line.Statement.{statement}
-use Rattle.lines.proofs.read_line.Tie as tie
+use Rattle.step_lines.proofs.read_line.Statement.{statement}
+use Rattle.step_lines.proofs.read_line.Tie as tie
 
 abbrev Inv-loop : tie.InvT-loop
 Inv-loop line reading₀ i₀ i-end reading i = (i ≤ length line) × (foldl readingAfter reading (drop i line) ≡ readingOf line)
