@@ -1,2 +1,1 @@
 pub mod Means
-pub mod Unique

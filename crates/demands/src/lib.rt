@@ -1,2 +1,2 @@
-// What the whole is for, on one page each: demand 3 over one verdict, and that every promise leaves one answer.
-// Statements in specs/, proofs in proofs/; there is no code.
+// What the whole is for, on one page: demand 3, both halves over one verdict.
+// The statement in specs/, the proof in proofs/; there is no code.
