@@ -38,7 +38,10 @@ fn slot_before(frame: u16, slot: u16) -> u16
     requires { ⌜ (slot < frame) × (frame ≤ 4096) ⌝ }
     ensures { λ r. ⌜ (r ≡ slotBefore frame slot) × (r < frame) ⌝ }
 {
-    (slot + frame - 1) % frame
+    if slot == 0 {
+        return frame - 1;
+    }
+    slot - 1
 }
 
 // The nearest occupied slot at a slot or before it; the number of slots left in the frame falls.
