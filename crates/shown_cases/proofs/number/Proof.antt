@@ -1,0 +1,45 @@
+use Prim.Native.Nat.{_-_}
+use borrow.Author.Needs.{needs}
+use Rattle.shown_cases.proofs.number.Statement.{statement}
+use Rattle.shown_cases.proofs.number.Tie as tie
+
+abbrev Inv-loop : tie.InvT-loop
+Inv-loop numbers k scan₀ i₀ i-end scan i = Unit {0}
+
+abbrev μ-loop : tie.MeasureT-loop
+μ-loop numbers k scan₀ i₀ i-end scan i = i-end - i
+
+loop-holds : tie.Need-loop-holds Inv-loop μ-loop
+loop-holds c = search needs
+
+shared-slice-read-scanned : tie.Need-shared-slice-read-scanned Inv-loop μ-loop
+shared-slice-read-scanned c = search needs
+
+scanned-requires : tie.Need-scanned-requires Inv-loop μ-loop
+scanned-requires c κs = search needs
+
+add-i : tie.Need-add-i Inv-loop μ-loop
+add-i c = search needs
+
+loop-less : tie.Need-loop-less Inv-loop μ-loop
+loop-less c = search needs
+
+loop-again : tie.Need-loop-again Inv-loop μ-loop
+loop-again c = search needs
+
+returns : tie.Need-returns Inv-loop μ-loop
+returns c = search needs
+
+pub number-spec : {M : Type 1} → statement M
+number-spec =
+    tie.close
+    (tie.spec
+    Inv-loop
+    μ-loop
+    loop-holds
+    shared-slice-read-scanned
+    scanned-requires
+    add-i
+    loop-less
+    loop-again
+    returns)
