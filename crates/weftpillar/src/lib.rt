@@ -1,6 +1,7 @@
 // The library for C and Rust: calls on lent bytes, each total, none keeping anything from one call to the next.
 mod answers;
 mod forms;
+mod places;
 mod runs;
 mod taken;
 mod verdicts;
@@ -19,15 +20,23 @@ ghost use Rattle.weftpillar.specs.Calls.{
   reckonTicks,
   lineAnswer,
   lineStep,
+  freshPlaceAnswer,
+  freshPlaceBytes,
+  nextAnswer,
+  nextPlace,
+  nextStep,
 };
 use answers::line_number;
 use forms::write_line;
 use lines::read_line;
+use places::next_on;
+use places::write_place;
 use run::fresh;
 use run_bytes::write_run;
 use runs::apart_on;
 use runs::reckon_on;
 use runs::step_on;
+use shown::fresh_place;
 use taken::ANOTHER_LENGTH;
 use taken::lengths_differ;
 use taken::taken_from;
@@ -124,4 +133,34 @@ pub extern "C" fn weftpillar_line(line: &[u8], step: &mut [u8]) -> u8
     let asked = read_line(line);
     write_line(step, asked);
     line_number(asked)
+}
+
+// Where a shown run begins, 292 bytes.
+#[no_mangle]
+pub extern "C" fn weftpillar_fresh_place(place: &mut [u8]) -> u8
+    ensures { λ r. ⌜ r ≡ freshPlaceAnswer (now (place .entry)) ⌝ }
+    ensures { λ _. ⌜ now (place .exit) ≡ freshPlaceBytes (now (place .entry)) ⌝ }
+{
+    if place.len() != 292 {
+        return ANOTHER_LENGTH;
+    }
+    write_place(place, 32, fresh_place());
+    0
+}
+
+// The next step of the shown run, 5 bytes, and the place moved on; 254 where the run is finished.
+#[no_mangle]
+pub extern "C" fn weftpillar_next(plan: &[u8], place: &mut [u8], step: &mut [u8]) -> u8
+    ensures { λ r. ⌜ r ≡ nextAnswer (now (plan .entry)) (now (place .entry)) (now (step .entry)) ⌝ }
+    ensures { λ _. ⌜ now (place .exit) ≡ nextPlace (now (plan .entry)) (now (place .entry)) (now (step .entry)) ⌝ }
+    ensures { λ _. ⌜ now (step .exit) ≡ nextStep (now (plan .entry)) (now (place .entry)) (now (step .entry)) ⌝ }
+{
+    if lengths_differ(place.len(), 292, step.len(), 5) {
+        return ANOTHER_LENGTH;
+    }
+    let taken = taken_from(plan);
+    if taken.number != 0 {
+        return taken.number;
+    }
+    next_on(taken.plan, place, step)
 }
