@@ -1,6 +1,7 @@
 // The library for C and Rust: calls on lent bytes, each total, none keeping anything from one call to the next.
 mod answers;
 mod forms;
+mod many;
 mod places;
 mod runs;
 mod taken;
@@ -14,6 +15,9 @@ ghost use Rattle.weftpillar.specs.Calls.{
   freshBytes,
   stepAnswer,
   stepRun,
+  stepsAnswer,
+  stepsRun,
+  stepsAnswers,
   apartAnswer,
   apartLeaves,
   reckonAnswer,
@@ -29,6 +33,8 @@ ghost use Rattle.weftpillar.specs.Calls.{
 use answers::line_number;
 use forms::write_line;
 use lines::read_line;
+use many::counts_differ;
+use many::steps_on;
 use places::next_on;
 use places::write_place;
 use run::fresh;
@@ -87,6 +93,31 @@ pub extern "C" fn weftpillar_step(plan: &[u8], run: &mut [u8], letter: u8, numbe
         return taken.number;
     }
     step_on(taken.plan, run, letter, number)
+}
+
+// Many steps, 5 bytes each, and a byte for the answer of each: the plan and the run are tested once, a refused step is passed over.
+#[no_mangle]
+pub extern "C" fn weftpillar_steps(
+    plan: &[u8],
+    run: &mut [u8],
+    steps: &[u8],
+    answers: &mut [u8],
+) -> u8
+    ensures { λ r. ⌜ r ≡ stepsAnswer (now (plan .entry)) (now (run .entry)) (now (steps .entry)) (now (answers .entry)) ⌝ }
+    ensures { λ _. ⌜ now (run .exit) ≡ stepsRun (now (plan .entry)) (now (run .entry)) (now (steps .entry)) (now (answers .entry)) ⌝ }
+    ensures { λ _. ⌜ now (answers .exit) ≡ stepsAnswers (now (plan .entry)) (now (run .entry)) (now (steps .entry)) (now (answers .entry)) ⌝ }
+{
+    if run.len() != 291 {
+        return ANOTHER_LENGTH;
+    }
+    if counts_differ(steps.len(), answers.len()) {
+        return ANOTHER_LENGTH;
+    }
+    let taken = taken_from(plan);
+    if taken.number != 0 {
+        return taken.number;
+    }
+    steps_on(taken.plan, run, steps, answers)
 }
 
 // Whether the run is out of step, and by which nodes: 9 bytes.
