@@ -10,18 +10,12 @@ use Rattle.rules.specs.declared.Outcome.the-variants.{Accepted, Fails}
 use Rattle.rules.specs.declared.Verdict.{Verdict}
 use Rattle.rules.specs.declared.Judged.{Judged}
 use Rattle.rules.specs.declared.Judged.the-variants.{Gives, Refused}
-use Rattle.rules.specs.Rules.{holds}
+use Rattle.rules.specs.Rules.{ruleNumber, holds}
 use Rattle.run.specs.declared.Step.{Step}
 use Rattle.run.specs.declared.Step.the-variants.{Delay, TickOf, SendOf}
 use Rattle.run.specs.declared.Answer.{Answer}
 use Rattle.run.specs.declared.Answer.the-variants as answer
 use Rattle.text.specs.Text.{bytes, numbered}
-
--- A rule's number.
-abbrev pub ruleNumber : Rule → ℕ
-ruleNumber One = 1
-ruleNumber Two = 2
-ruleNumber Three = 3
 
 -- Line 1: mark, version, N, M.
 abbrev pub headLine : (N M : ℕ) → List ℕ

@@ -5,6 +5,7 @@ use rules::Outcome;
 use rules::Rule;
 use rules::Sides;
 use rules::Verdict;
+use rules::rule_number;
 use run::Answer;
 use run::Step;
 use text::put_byte;
@@ -22,7 +23,6 @@ ghost use Rattle.rules.specs.Rules.{holds};
 ghost use Rattle.text.specs.Text.{bytes, decimal, numbered, Put};
 ghost use Rattle.lines.specs.Written.{wroteOf, bufferOf};
 ghost use Rattle.lines.specs.Out.{
-  ruleNumber,
   headLine,
   ruleLine,
   outcomeLine,
@@ -59,16 +59,6 @@ fn put_head(out: &mut [u8], at: usize, nodes: u32, gap: u32) -> usize
     put_byte(out, second, b'\n')
 }
 
-fn rule_number(rule: Rule) -> u32
-    ensures { λ r. ⌜ r ≡ ruleNumber rule ⌝ }
-{
-    match rule {
-        Rule::One => 1,
-        Rule::Two => 2,
-        Rule::Three => 3,
-    }
-}
-
 fn put_side(out: &mut [u8], at: usize, side: u64) -> usize
     requires { ⌜ at + 21 ≤ length (now out) ⌝ }
     ensures { λ r. ⌜ Put 21 (now (out .entry)) at (numbered " " side) (now (out .exit)) r ⌝ }
@@ -91,7 +81,7 @@ fn put_rule(out: &mut [u8], at: usize, rule: Rule, sides: Sides) -> usize
     requires { ⌜ at + 64 ≤ length (now out) ⌝ }
     ensures { λ r. ⌜ Put 64 (now (out .entry)) at (ruleLine rule sides) (now (out .exit)) r ⌝ }
 {
-    let first = put_numbered(out, at, b"rule ", rule_number(rule));
+    let first = put_numbered(out, at, b"rule ", rule_number(rule) as u32);
     let second = put_side(out, first, sides.left);
     let third = put_side(out, second, sides.right);
     put_holds(out, third, sides)
@@ -104,7 +94,7 @@ fn put_outcome(out: &mut [u8], at: usize, outcome: Outcome) -> usize
     match outcome {
         Outcome::Accepted => put_word(out, at, b"verdict in step\n"),
         Outcome::Fails(rule) => {
-            let first = put_numbered(out, at, b"verdict rule ", rule_number(rule));
+            let first = put_numbered(out, at, b"verdict rule ", rule_number(rule) as u32);
             put_byte(out, first, b'\n')
         }
     }

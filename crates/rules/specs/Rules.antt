@@ -14,6 +14,12 @@ use Rattle.rules.specs.declared.Verdict.{Verdict}
 use Rattle.rules.specs.declared.Judged.{Judged}
 use Rattle.rules.specs.declared.Judged.the-variants.{Gives, Refused}
 
+-- A rule's number.
+abbrev pub ruleNumber : Rule → ℕ
+ruleNumber One = 1
+ruleNumber Two = 2
+ruleNumber Three = 3
+
 -- The two sides of a rule at the distance m.
 -- Rule 1: (M·k0 − g)·max < (M·k0 − 1)·min
 -- Rule 2: M·k0·max < ((M + 1)·k0 − g − 2)·min

@@ -7,7 +7,7 @@ ghost use Prim.Native.Nat.{_*_, _≤_, _<_};
 ghost use Rattle.plan.specs.Tested.{planNumber, Sound};
 ghost use Rattle.gap.specs.Gap.{gapOf};
 ghost use Rattle.rules.specs.declared.Rule.the-variants.{One, Two, Three};
-ghost use Rattle.rules.specs.Rules.{sidesAt, holds, outcomeBy, verdictOf, judgedOf};
+ghost use Rattle.rules.specs.Rules.{ruleNumber, sidesAt, holds, outcomeBy, verdictOf, judgedOf};
 
 pub enum Rule {
     One,
@@ -89,6 +89,17 @@ fn sides_three(plan: Plan, gap: Slot) -> Sides
     Sides {
         left: ticks_at(ticks - guard - plan.tail.0 as u64, plan.max),
         right: ticks_at(ticks - guard - 1, plan.min),
+    }
+}
+
+// A rule's number.
+pub fn rule_number(rule: Rule) -> u8
+    ensures { λ r. ⌜ r ≡ ruleNumber rule ⌝ }
+{
+    match rule {
+        Rule::One => 1,
+        Rule::Two => 2,
+        Rule::Three => 3,
     }
 }
 

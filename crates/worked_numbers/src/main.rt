@@ -9,7 +9,6 @@ use plan::Tick;
 use plan::Time;
 use rules::Judged;
 use rules::Outcome;
-use rules::Rule;
 
 // N, C, n, k0, g, t; the source's min, whose max is one more; the table's number. Node i sends in slot i.
 const COLUMNS: [[u32; 10]; 20] = [
@@ -85,18 +84,10 @@ fn ticks(n: u32) -> Tick {
     Tick((n % 256) as u8)
 }
 
-fn rule_number(rule: Rule) -> u32 {
-    match rule {
-        Rule::One => 1,
-        Rule::Two => 2,
-        Rule::Three => 3,
-    }
-}
-
 fn outcome_number(outcome: Outcome) -> u32 {
     match outcome {
         Outcome::Accepted => 0,
-        Outcome::Fails(rule) => rule_number(rule),
+        Outcome::Fails(rule) => rules::rule_number(rule) as u32,
     }
 }
 

@@ -22,6 +22,9 @@ slice-aggregate-put-numbered c = search needs
 rule-number-requires : tie.Need-rule-number-requires
 rule-number-requires c κs = search needs
 
+cast-put-numbered : tie.Need-cast-put-numbered
+cast-put-numbered c = search needs
+
 put-numbered-requires : tie.Need-put-numbered-requires
 put-numbered-requires c κs = search needs
 
@@ -53,6 +56,7 @@ put-outcome-spec =
     enum-known-outcome
     slice-aggregate-put-numbered
     rule-number-requires
+    cast-put-numbered
     put-numbered-requires
     put-byte-requires
     same-length

@@ -9,6 +9,9 @@ slice-aggregate-put-numbered c = search needs
 rule-number-requires : tie.Need-rule-number-requires
 rule-number-requires c κs = search needs
 
+cast-put-numbered : tie.Need-cast-put-numbered
+cast-put-numbered c = search needs
+
 put-numbered-requires : tie.Need-put-numbered-requires
 put-numbered-requires c κs = search needs
 
@@ -38,6 +41,7 @@ put-rule-spec =
     (tie.spec
     slice-aggregate-put-numbered
     rule-number-requires
+    cast-put-numbered
     put-numbered-requires
     put-side-requires
     put-side-requires-2
