@@ -14,7 +14,7 @@ use Rattle.plan.specs.declared.Plan.{Plan}
 use Rattle.plan.specs.Sending.{own, sends}
 use Rattle.plan.specs.Tested.{Sound}
 use Rattle.plan.proofs.Sound.{own-sends, own-in-frame}
-use Rattle.gap.specs.Gap.{slotBefore, nearest, predecessor, gapAt}
+use Rattle.gap.specs.Gap.{slotBefore, nearest, predecessor, distanceBefore}
 use Rattle.gap.proofs.Facts.{Before}
 use Rattle.gap.proofs.Others.{other}
 
@@ -105,7 +105,7 @@ module _ (P : Plan) (o : Sound P) (i : ℕ) (hi : i < P .nodes .0) where
       apart (round a) n hx hs = omega arith
 
   pub before-own : Before P i (predecessor P (own P i))
-  unfolding gapAt
+  unfolding distanceBefore
   before-own =
       let C = P .frame .0 in
       let q = predecessor P (own P i) in

@@ -6,7 +6,7 @@ use mathlib.Core.Bool.{true}
 use Rattle.laws.specs.Ring.{distance}
 use Rattle.plan.specs.declared.Plan.{Plan}
 use Rattle.plan.specs.Sending.{own, sends}
-use Rattle.gap.specs.Gap.{predecessor, gapFor}
+use Rattle.gap.specs.Gap.{predecessor, distanceFor}
 
 -- The next sending slot after p is d slots away: a node sends there, and no node sends nearer.
 pub record NextAt (P : Plan) (p d : ℕ) : Type 0 where
@@ -22,5 +22,5 @@ pub record Before (P : Plan) (i q : ℕ) : Type 0 where
   pub within : q < P .frame .0
   pub sending : sends P q ≡ true
   pub other : q ≢ own P i
-  pub away : distance (P .frame .0) q (own P i) ≡ gapFor P i
-  pub next : NextAt P q (gapFor P i)
+  pub away : distance (P .frame .0) q (own P i) ≡ distanceFor P i
+  pub next : NextAt P q (distanceFor P i)

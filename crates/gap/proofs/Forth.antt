@@ -15,7 +15,7 @@ use Rattle.plan.specs.declared.Plan.{Plan}
 use Rattle.plan.specs.Sending.{own, sends}
 use Rattle.plan.specs.Tested.{Sound}
 use Rattle.plan.proofs.Sound.{sends-by, own-sends, own-in-frame}
-use Rattle.gap.specs.Gap.{predecessor, gapFor, gapOf, slotsToNext}
+use Rattle.gap.specs.Gap.{predecessor, distanceFor, gapOf, slotsToNext}
 use Rattle.gap.proofs.Facts.{NextAt}
 use Rattle.gap.proofs.Others.{other}
 use Rattle.gap.proofs.Back.{before-own}
@@ -109,10 +109,10 @@ module _ (P : Plan) (o : Sound P) (p : ℕ) (hp : p < P .frame .0) where
   between C k d q s hp hq l (round a) (round b) = on (omega arith)
 
   -- the next sending slot is no farther than its own predecessor
-  pub next-within-own : slotsToNext P p ≤ gapFor P (next-at .by)
-  next-within-own = go (decLe (slotsToNext P p) (gapFor P (next-at .by)))
+  pub next-within-own : slotsToNext P p ≤ distanceFor P (next-at .by)
+  next-within-own = go (decLe (slotsToNext P p) (distanceFor P (next-at .by)))
     where
-      go : Dec (slotsToNext P p ≤ gapFor P (next-at .by)) → slotsToNext P p ≤ gapFor P (next-at .by)
+      go : Dec (slotsToNext P p ≤ distanceFor P (next-at .by)) → slotsToNext P p ≤ distanceFor P (next-at .by)
       go (yes l) = l
       go (no l) =
           let C = P .frame .0 in
@@ -122,7 +122,7 @@ module _ (P : Plan) (o : Sound P) (p : ℕ) (hp : p < P .frame .0) where
           let hs : s < C = own-in-frame P o (n .by) (n .below) in
           let b = before-own P o (n .by) (n .below) in
           let q = predecessor P s in
-          let d = gapFor P (n .by) in
+          let d = distanceFor P (n .by) in
           let v = sends-by P q (b .sending) in
           let rs : Reaches C p k s = rw (n .away) at (distance-reaches C p s hp hs) in
           let rq : Reaches C q d s = rw (b .away) at (distance-reaches C q s (b .within) hs) in
@@ -131,4 +131,4 @@ module _ (P : Plan) (o : Sound P) (p : ℕ) (hp : p < P .frame .0) where
 
   pub next-within : slotsToNext P p ≤ gapOf P
   unfolding gapOf
-  next-within = omega (arith, next-within-own, largest-above (P .nodes .0) (gapFor P) (next-at .by) (next-at .below))
+  next-within = omega (arith, next-within-own, largest-above (P .nodes .0) (distanceFor P) (next-at .by) (next-at .below))

@@ -18,8 +18,8 @@ use Rattle.plan.specs.declared.Plan.{Plan}
 use Rattle.plan.specs.Sending.{own, sendsBelow, sends}
 use Rattle.gap.specs.Gap.{slotBefore, nearest}
 use Rattle.laws.proofs.Overs.{getD-over}
-use Rattle.gap.specs.declared.Gaps.{Gaps}
-use Rattle.gap.specs.Gaps.{taken, Occupied, nodeGap, noGap, gapsOf}
+use Rattle.gap.specs.declared.Distances.{Distances}
+use Rattle.gap.specs.Distances.{taken, Occupied, nodeDistance, noDistance, distancesOf}
 
 -- the search, by what it meets
 
@@ -83,10 +83,10 @@ taken-sends P table o s = go (sends P s) (o .marks s)
     go true e = eq-eqb (getD table s 0) 1 e
     go false e = ne-eqb (getD table s 0) 1 (λ q. omega arith)
 
--- the gaps of all nodes
+-- the distances of all nodes
 
 -- what stands at a node's place
-pub gaps-at : (P : Plan) (gaps : Gaps) → gaps ≡ gapsOf P → (i : ℕ) → i < P .nodes .0 → i < 32 → getD (gaps .nodes) i noGap ≡ nodeGap P (own P i)
-unfolding gapsOf
-gaps-at P gaps e i h l =
-    rw e (getD-over (P .nodes .0) (λ k x. nodeGap P (own P k)) (replicate 32 noGap) i noGap h (let z : length (replicate 32 noGap) ≡ 32 = length-replicate 32 noGap in omega arith))
+pub distances-at : (P : Plan) (distances : Distances) → distances ≡ distancesOf P → (i : ℕ) → i < P .nodes .0 → i < 32 → getD (distances .nodes) i noDistance ≡ nodeDistance P (own P i)
+unfolding distancesOf
+distances-at P distances e i h l =
+    rw e (getD-over (P .nodes .0) (λ k x. nodeDistance P (own P k)) (replicate 32 noDistance) i noDistance h (let z : length (replicate 32 noDistance) ≡ 32 = length-replicate 32 noDistance in omega arith))

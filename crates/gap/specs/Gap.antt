@@ -20,16 +20,16 @@ unfoldable pub predecessor : Plan → ℕ → ℕ
 predecessor P s = nearest (sends P) (P .frame .0) (P .frame .0 - 1) (slotBefore (P .frame .0) s)
 
 -- D(s): the number of slots from the predecessor to s, round the frame.
-unfoldable pub gapAt : Plan → ℕ → ℕ
-gapAt P s = distance (P .frame .0) (predecessor P s) s
+unfoldable pub distanceBefore : Plan → ℕ → ℕ
+distanceBefore P s = distance (P .frame .0) (predecessor P s) s
 
 -- The D of node i's own sending slot.
-abbrev pub gapFor : Plan → ℕ → ℕ
-gapFor P i = gapAt P (own P i)
+abbrev pub distanceFor : Plan → ℕ → ℕ
+distanceFor P i = distanceBefore P (own P i)
 
 -- M: the largest D over sending slots.
 unfoldable pub gapOf : Plan → ℕ
-gapOf P = largestBelow (P .nodes .0) (gapFor P)
+gapOf P = largestBelow (P .nodes .0) (distanceFor P)
 
 -- The number of slots from p to the next sending slot after it, forward round the frame; C where no other sends. No promise uses it.
 unfoldable pub slotsToNext : Plan → ℕ → ℕ

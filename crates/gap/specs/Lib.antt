@@ -1,2 +1,2 @@
 pub mod Gap
-pub mod Gaps
+pub mod Distances

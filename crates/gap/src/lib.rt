@@ -7,17 +7,17 @@ ghost use lib.ListN.{length};
 ghost use Rattle.laws.specs.Ring.{distance};
 ghost use Rattle.plan.specs.Tested.{planNumber, Sound};
 ghost use Rattle.gap.specs.Gap.{slotBefore, nearest, gapOf};
-ghost use Rattle.gap.specs.Gaps.{Occupied, taken, nodeGap, gapsOf};
+ghost use Rattle.gap.specs.Distances.{Occupied, taken, nodeDistance, distancesOf};
 
 // The predecessor of a node's sending slot, and D, the slots from it.
-pub struct NodeGap {
+pub struct NodeDistance {
     pub predecessor: Slot,
-    pub gap: Slot,
+    pub distance: Slot,
 }
 
 // What the frame is like for each node; places from N on are 0.
-pub struct Gaps {
-    pub nodes: [NodeGap; 32],
+pub struct Distances {
+    pub nodes: [NodeDistance; 32],
 }
 
 // The table of occupied slots: 1 where some node sends, else 0.
@@ -59,50 +59,50 @@ fn nearest_taken(table: &[u8], frame: u16, left: u16, slot: u16) -> u16
     nearest_taken(table, frame, left - 1, before)
 }
 
-fn node_gap(plan: Plan, table: &[u8], slot: Slot) -> NodeGap
+fn node_distance(plan: Plan, table: &[u8], slot: Slot) -> NodeDistance
     requires { ⌜ (Sound plan) × (Occupied plan (now table)) × (slot .0 < plan .frame .0) ⌝ }
-    ensures { λ r. ⌜ r ≡ nodeGap plan (slot .0) ⌝ }
+    ensures { λ r. ⌜ r ≡ nodeDistance plan (slot .0) ⌝ }
 {
     let frame = plan.frame.0;
     let before = slot_before(frame, slot.0);
     let predecessor = nearest_taken(table, frame, frame - 1, before);
-    NodeGap {
+    NodeDistance {
         predecessor: Slot(predecessor),
-        gap: Slot((slot.0 + frame - predecessor) % frame),
+        distance: Slot((slot.0 + frame - predecessor) % frame),
     }
 }
 
 // Every node's predecessor and gap, for a tested plan: one walk round the frame over the table of occupied slots.
-pub fn gaps_tested(plan: Plan) -> Gaps
+pub fn distances_tested(plan: Plan) -> Distances
     requires { ⌜ planNumber plan ≡ 0 ⌝ }
-    ensures { λ r. ⌜ r ≡ gapsOf plan ⌝ }
+    ensures { λ r. ⌜ r ≡ distancesOf plan ⌝ }
 {
     let nodes = plan.nodes.0 as usize;
     let table = occupied(plan, nodes);
-    let mut gaps = Gaps {
-        nodes: [NodeGap {
+    let mut distances = Distances {
+        nodes: [NodeDistance {
             predecessor: Slot(0),
-            gap: Slot(0),
+            distance: Slot(0),
         }; 32],
     };
     for i in 0..nodes {
         let own = plan.slots[i];
-        let gap = node_gap(plan, &table, own);
-        gaps.nodes[i] = gap;
+        let distance = node_distance(plan, &table, own);
+        distances.nodes[i] = distance;
     }
-    gaps
+    distances
 }
 
-// M, from the gaps of a tested plan.
-pub fn widest_tested(plan: Plan, gaps: Gaps) -> Slot
-    requires { ⌜ (planNumber plan ≡ 0) × (gaps ≡ gapsOf plan) ⌝ }
+// M, from the distances of a tested plan.
+pub fn gap_tested(plan: Plan, distances: Distances) -> Slot
+    requires { ⌜ (planNumber plan ≡ 0) × (distances ≡ distancesOf plan) ⌝ }
     ensures { λ r. ⌜ r .0 ≡ gapOf plan ⌝ }
 {
     let nodes = plan.nodes.0 as usize;
     let mut widest = 0u16;
     for i in 0..nodes {
-        let node = gaps.nodes[i];
-        widest = larger(widest, node.gap.0);
+        let node = distances.nodes[i];
+        widest = larger(widest, node.distance.0);
     }
     Slot(widest)
 }

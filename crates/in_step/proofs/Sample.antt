@@ -12,7 +12,7 @@ use Rattle.plan.specs.declared.Plan.{Plan}
 use Rattle.plan.specs.Numbers.{planBy, slotsFrom}
 use Rattle.plan.specs.Sending.{sends}
 use Rattle.plan.specs.Tested.{activeOutside, guardOrTailWrong, minOrMaxWrong, someNotActive, sharesSlot, someShared, planNumber}
-use Rattle.gap.specs.Gap.{nearest, predecessor, gapAt, gapOf}
+use Rattle.gap.specs.Gap.{nearest, predecessor, distanceBefore, gapOf}
 use Rattle.rules.specs.declared.Outcome.the-variants.{Accepted}
 use Rattle.rules.specs.Rules.{sidesAt, outcomeBy, verdictAt, verdictOf}
 use Rattle.run.specs.declared.Answer.{Answer}
@@ -38,7 +38,7 @@ unfolding sample firstOf anyBelow sends activeOutside guardOrTailWrong minOrMaxW
 let-through = refl
 
 pub accepted : verdictOf sample .outcome ≡ Accepted
-unfolding sample anyBelow largestBelow distance sends nearest predecessor gapAt gapOf sidesAt outcomeBy verdictAt verdictOf
+unfolding sample anyBelow largestBelow distance sends nearest predecessor distanceBefore gapOf sidesAt outcomeBy verdictAt verdictOf
 accepted = refl
 
 -- rounds: a delay of min, and a tick of every node, in number order; a node that becomes about to send sends at once

@@ -3,8 +3,8 @@
 ghost use mathlib.Core.Path.{_≡_};
 ghost use Rattle.plan.specs.Tested.{planNumber};
 ghost use Rattle.judging.specs.Prepared.{Prepared};
-use gap::gaps_tested;
-use gap::widest_tested;
+use gap::distances_tested;
+use gap::gap_tested;
 use libc::STDOUT_FILENO;
 use lines::Wrote;
 use lines::write_judged;
@@ -92,8 +92,8 @@ fn show(plan: Plan, parts: Parts, out: &mut [u8], from: usize)
 fn judged(plan: Plan, out: &mut [u8])
     requires { ⌜ planNumber plan ≡ 0 ⌝ }
 {
-    let gaps = gaps_tested(plan);
-    let gap = widest_tested(plan, gaps);
+    let distances = distances_tested(plan);
+    let gap = gap_tested(plan, distances);
     let verdict = verdict_tested(plan, gap);
     let waiting = waiting_after(write_judged(out, 0, plan.nodes, Judged::Gives(verdict)), 0);
     let outcome = verdict.outcome;
@@ -101,7 +101,7 @@ fn judged(plan: Plan, out: &mut [u8])
         flushed(out, waiting);
         return;
     };
-    let parts = parts_tested(plan, gaps, gap, rule);
+    let parts = parts_tested(plan, distances, gap, rule);
     show(plan, parts, out, waiting);
 }
 

@@ -12,8 +12,8 @@ use Rattle.plan.proofs.plan_number.Reads as plan-number
 use Rattle.plan_file.proofs.read_plan.Reads as read-plan
 use Rattle.plan_file.proofs.be16.Reads as be16
 use Rattle.plan_file.proofs.be32.Reads as be32
-use Rattle.gap.proofs.gaps_tested.Reads as gaps-tested
-use Rattle.gap.proofs.widest_tested.Reads as widest-tested
+use Rattle.gap.proofs.distances_tested.Reads as distances-tested
+use Rattle.gap.proofs.gap_tested.Reads as gap-tested
 use Rattle.rules.proofs.judge.Reads as judge
 use Rattle.rules.proofs.verdict_tested.Reads as verdict-tested
 use Rattle.run.proofs.fresh.Reads as fresh
@@ -21,7 +21,7 @@ use Rattle.run.proofs.out_of_step.Reads as out-of-step
 use Rattle.run.proofs.is_about.Reads as is-about
 use Rattle.run.proofs.in_range.Reads as in-range
 use Rattle.run.proofs.apart_tested.Reads as apart-tested
-use Rattle.run.proofs.is_apart.Reads as is-apart
+use Rattle.run.proofs.is_out_of_step.Reads as is-out-of-step
 use Rattle.moves.proofs.delayed.Reads as delayed
 use Rattle.moves.proofs.ticked.Reads as ticked
 use Rattle.moves.proofs.sent.Reads as sent
@@ -81,11 +81,11 @@ be32-one κ a x y l m p q = p ∙ sym q
 
 -- gap: of a tested plan
 
-pub gaps-tested-one : OneAnswer gaps-tested.Post
-gaps-tested-one κ a x y l m p q = p ∙ sym q
+pub distances-tested-one : OneAnswer distances-tested.Post
+distances-tested-one κ a x y l m p q = p ∙ sym q
 
-pub widest-tested-one : OneAnswer widest-tested.Post
-widest-tested-one κ a x y l m p q = ap (λ (n : ℕ). slot n) (p ∙ sym q)
+pub gap-tested-one : OneAnswer gap-tested.Post
+gap-tested-one κ a x y l m p q = ap (λ (n : ℕ). slot n) (p ∙ sym q)
 
 -- rules
 
@@ -112,8 +112,8 @@ in-range-one κ a x y l m p q = p ∙ sym q
 pub apart-tested-one : OneAnswer apart-tested.Post
 apart-tested-one κ a x y l m p q = p ∙ sym q
 
-pub is-apart-one : OneAnswer is-apart.Post
-is-apart-one κ a x y l m p q = p ∙ sym q
+pub is-out-of-step-one : OneAnswer is-out-of-step.Post
+is-out-of-step-one κ a x y l m p q = p ∙ sym q
 
 -- moves: of a tested plan
 

@@ -143,7 +143,7 @@ pub fn judge(plan: Plan) -> Judged
     if number != 0 {
         return Judged::Refused(number);
     }
-    let gaps = gap::gaps_tested(plan);
-    let gap = gap::widest_tested(plan, gaps);
+    let distances = gap::distances_tested(plan);
+    let gap = gap::gap_tested(plan, distances);
     Judged::Gives(verdict_tested(plan, gap))
 }

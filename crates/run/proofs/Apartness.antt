@@ -16,7 +16,7 @@ use Rattle.plan.specs.Sending.{own}
 use Rattle.run.specs.declared.Run.{Run}
 use Rattle.run.specs.declared.Apart.{Apart}
 use Rattle.run.specs.declared.Apart.the-variants.{InStep, Out, Refused}
-use Rattle.run.specs.State.{node, isSending, elsewhere, sendsApart, outOfStep, senderApart, apartOf}
+use Rattle.run.specs.State.{node, isSending, elsewhere, sendsApart, outOfStep, senderApart, apartTested}
 use Rattle.run.specs.Moves.{nodeTicked, ticked, sent}
 use Rattle.run.proofs.Nodes.{node-ticked, node-still, node-sender, node-hearing}
 
@@ -31,16 +31,16 @@ module _ (P : Plan) (r : Run) where
   abbrev pub sending : ℕ → Bool
   sending i = isSending (node r i .mode)
 
-  pub out-of-step-told : outOfStep P r ≡ isOut (apartOf P r)
-  unfolding apartOf
+  pub out-of-step-told : outOfStep P r ≡ isOut (apartTested P r)
+  unfolding apartTested
   out-of-step-told = told (outOfStep P r) (record { 0 = senderApart P r }) (record { 0 = firstBelow (P .nodes .0) (elsewhere r (senderApart P r)) })
     where
       told : (b : Bool) (i j : Node) → b ≡ isOut (cond b (Out i j) InStep)
       told true i j = refl
       told false i j = refl
 
-  in-step : outOfStep P r ≡ false → apartOf P r ≡ InStep
-  unfolding apartOf
+  in-step : outOfStep P r ≡ false → apartTested P r ≡ InStep
+  unfolding apartTested
   in-step h = rw h
 
   not-apart-silent : (i : ℕ) → sending i ≡ false → sendsApart P r i ≡ false
@@ -48,7 +48,7 @@ module _ (P : Plan) (r : Run) where
   not-apart-silent i h = rw h
 
   -- nobody is sending
-  pub in-step-silent : P .nodes .0 ≤ firstBelow (P .nodes .0) sending → apartOf P r ≡ InStep
+  pub in-step-silent : P .nodes .0 ≤ firstBelow (P .nodes .0) sending → apartTested P r ≡ InStep
   unfolding outOfStep
   in-step-silent h = in-step (any-never (P .nodes .0) (sendsApart P r) (λ i l. not-apart-silent i (quiet (firstBelow (P .nodes .0) sending) (first-found (P .nodes .0) sending) h i l)))
     where
@@ -57,7 +57,7 @@ module _ (P : Plan) (r : Run) where
       quiet k (none a b) l = b
 
   -- every node is in the slot of node i
-  pub in-step-together : (i : ℕ) → P .nodes .0 ≤ firstBelow (P .nodes .0) (elsewhere r i) → apartOf P r ≡ InStep
+  pub in-step-together : (i : ℕ) → P .nodes .0 ≤ firstBelow (P .nodes .0) (elsewhere r i) → apartTested P r ≡ InStep
   unfolding outOfStep sendsApart
   in-step-together i h = in-step (any-never (P .nodes .0) (sendsApart P r) alone)
     where
@@ -81,12 +81,12 @@ module _ (P : Plan) (r : Run) where
   -- i is the lowest sending node, j the lowest node elsewhere
   pub out-lowest :
       (i j : ℕ) → i ≡ firstBelow (P .nodes .0) sending → i < P .nodes .0 → j ≡ firstBelow (P .nodes .0) (elsewhere r i) → j < P .nodes .0
-      → apartOf P r ≡ Out (record { 0 = i }) (record { 0 = j })
-  unfolding outOfStep sendsApart apartOf
+      → apartTested P r ≡ Out (record { 0 = i }) (record { 0 = j })
+  unfolding outOfStep sendsApart apartTested
   out-lowest i j p l q m =
       first (rw (← p) at (first-found (P .nodes .0) sending)) (rw (← q) at (first-found (P .nodes .0) (elsewhere r i)))
     where
-      first : Found (P .nodes .0) sending i → Found (P .nodes .0) (elsewhere r i) j → apartOf P r ≡ Out (record { 0 = i }) (record { 0 = j })
+      first : Found (P .nodes .0) sending i → Found (P .nodes .0) (elsewhere r i) j → apartTested P r ≡ Out (record { 0 = i }) (record { 0 = j })
       first (found a b c) (found d e f) =
           let yes : sendsApart P r i ≡ true = and-both (sending i) (anyBelow (P .nodes .0) (elsewhere r i)) b (any-found (P .nodes .0) j (elsewhere r i) d e) in
           let sender : senderApart P r ≡ i = first-at (P .nodes .0) i (sendsApart P r) a (λ k n. not-apart-silent k (c k n)) yes in

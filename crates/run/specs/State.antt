@@ -72,8 +72,8 @@ abbrev pub senderApart : Plan → Run → ℕ
 senderApart P r = firstBelow (P .nodes .0) (sendsApart P r)
 
 -- In step; or out of step, with the lowest sending node that has a node elsewhere and the lowest such node.
-unfoldable pub apartOf : Plan → Run → Apart
-apartOf P r =
+unfoldable pub apartTested : Plan → Run → Apart
+apartTested P r =
     cond (outOfStep P r)
     (Out (record { 0 = senderApart P r }) (record { 0 = firstBelow (P .nodes .0) (elsewhere r (senderApart P r)) }))
     InStep

@@ -17,7 +17,7 @@ use Rattle.run.specs.declared.Answer.the-variants.{Done, Refused}
 use Rattle.run.specs.declared.Stepped.{Stepped}
 use Rattle.run.specs.declared.Apart.{Apart}
 use Rattle.run.specs.declared.Apart.the-variants as apart
-use Rattle.run.specs.State.{node, isAbout, inRange, outOfStep, apartOf}
+use Rattle.run.specs.State.{node, isAbout, inRange, outOfStep, apartTested}
 use Rattle.run.specs.Moves.{moved}
 
 -- A step is a delay; a tick of node i.
@@ -61,10 +61,10 @@ unfoldable pub stepOf : Plan → Run → Step → Stepped
 stepOf P r s = cond (eqb (planNumber P) 0) (stepTested P r s) (refusedWith (planNumber P) r)
 
 -- The out-of-step test of any plan on any run.
-unfoldable pub apartTest : Plan → Run → Apart
-apartTest P r =
+unfoldable pub apartOf : Plan → Run → Apart
+apartOf P r =
     cond (eqb (planNumber P) 0)
-    (cond (inRange P r) (apartOf P r) (apart.Refused run-outside))
+    (cond (inRange P r) (apartTested P r) (apart.Refused run-outside))
     (apart.Refused (planNumber P))
 
 -- The run after steps in a row, whatever is answered.

@@ -3,7 +3,7 @@ ghost use mathlib.Core.Path.{_≡_};
 ghost use Prim.Native.Nat.{_<_};
 ghost use Rattle.laws.specs.Below.{firstBelow};
 ghost use Rattle.plan.specs.Tested.{Sound};
-ghost use Rattle.run.specs.State.{node, isSending, elsewhere, outOfStep, apartOf};
+ghost use Rattle.run.specs.State.{node, isSending, elsewhere, outOfStep, apartTested};
 use crate::Apart;
 use crate::Run;
 use crate::modes::is_sending;
@@ -46,7 +46,7 @@ fn first_elsewhere(plan: Plan, run: Run, i: usize) -> usize
 // The out-of-step test of a plan that passed 1 to 9.
 pub fn apart_tested(plan: Plan, run: Run) -> Apart
     requires { ⌜ Sound plan ⌝ }
-    ensures { λ r. ⌜ r ≡ apartOf plan run ⌝ }
+    ensures { λ r. ⌜ r ≡ apartTested plan run ⌝ }
 {
     let n = plan.nodes.0 as usize;
     let i = first_sending(plan, run);
@@ -60,7 +60,7 @@ pub fn apart_tested(plan: Plan, run: Run) -> Apart
     Apart::Out(Node(i as u32), Node(j as u32))
 }
 
-pub fn is_apart(plan: Plan, run: Run) -> bool
+pub fn is_out_of_step(plan: Plan, run: Run) -> bool
     requires { ⌜ Sound plan ⌝ }
     ensures { λ r. ⌜ r ≡ outOfStep plan run ⌝ }
 {

@@ -4,12 +4,12 @@ mod modes;
 mod range;
 
 pub use elsewhere::apart_tested;
-pub use elsewhere::is_apart;
+pub use elsewhere::is_out_of_step;
 pub use modes::is_about;
 pub use range::in_range;
 ghost use mathlib.Core.Path.{_≡_};
 ghost use Rattle.run.specs.State.{freshRun};
-ghost use Rattle.run.specs.Steps.{apartTest};
+ghost use Rattle.run.specs.Steps.{apartOf};
 use plan::Node;
 use plan::Plan;
 use plan::RUN_OUTSIDE;
@@ -96,7 +96,7 @@ pub fn fresh() -> Run
 
 // The out-of-step test of any plan on any run.
 pub fn out_of_step(plan: Plan, run: Run) -> Apart
-    ensures { λ r. ⌜ r ≡ apartTest plan run ⌝ }
+    ensures { λ r. ⌜ r ≡ apartOf plan run ⌝ }
 {
     let number = plan_number(plan);
     if number != 0 {

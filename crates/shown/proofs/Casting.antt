@@ -14,7 +14,7 @@ use Rattle.plan.specs.declared.Plan.{Plan}
 use Rattle.plan.specs.Sending.{own, sends}
 use Rattle.plan.specs.Tested.{Sound}
 use Rattle.plan.proofs.Sound.{sends-by}
-use Rattle.gap.specs.Gap.{predecessor, gapFor, gapOf}
+use Rattle.gap.specs.Gap.{predecessor, distanceFor, gapOf}
 use Rattle.gap.proofs.Facts.{Before}
 use Rattle.gap.proofs.Others.{other, third}
 use Rattle.gap.proofs.Back.{before-own}
@@ -39,22 +39,22 @@ module _ (P : Plan) (o : Sound P) where
   -- the node that sends in s: its slot has D = M, and p is the slot's predecessor
   pub record Widest (b p : ℕ) : Type 0 where
     pub below : b < P .nodes .0
-    pub gap : gapFor P b ≡ gapOf P
+    pub gap : distanceFor P b ≡ gapOf P
     pub from : predecessor P (own P b) ≡ p
 
   widest-by : (p i : ℕ) → p < P .frame .0 → i < P .nodes .0 → predecessorAt P (gapOf P) i ≡ p → Widest i p
   unfolding predecessorAt
-  widest-by p i hp hi e = go (eqb (gapFor P i) (gapOf P)) refl
+  widest-by p i hp hi e = go (eqb (distanceFor P i) (gapOf P)) refl
     where
-      go : (b : Bool) → eqb (gapFor P i) (gapOf P) ≡ b → Widest i p
-      go true q = record { below = hi; gap = eqb-true (gapFor P i) (gapOf P) q; from = rw q at e }
+      go : (b : Bool) → eqb (distanceFor P i) (gapOf P) ≡ b → Widest i p
+      go true q = record { below = hi; gap = eqb-true (distanceFor P i) (gapOf P) q; from = rw q at e }
       go false q = absurd (let z : P .frame .0 ≡ p = rw q at e in omega arith)
 
   pub widest : Widest (widestNode P) (widestFrom P)
   unfolding gapOf widestFrom widestNode predecessorAt
   widest =
-      let w = largest-reached (P .nodes .0) (gapFor P) (omega (arith, o .nodes-low)) in
-      let at : predecessorAt P (gapOf P) (w .at) ≡ predecessor P (own P (w .at)) = rw (eq-eqb (gapFor P (w .at)) (gapOf P) (w .value)) in
+      let w = largest-reached (P .nodes .0) (distanceFor P) (omega (arith, o .nodes-low)) in
+      let at : predecessorAt P (gapOf P) (w .at) ≡ predecessor P (own P (w .at)) = rw (eq-eqb (distanceFor P (w .at)) (gapOf P) (w .value)) in
       let low = least-under (P .frame .0) (P .nodes .0) (predecessorAt P (gapOf P)) (w .at) (w .below) in
       let within = before-own P o (w .at) (w .below) .within in
       let l = least-reached (P .frame .0) (P .nodes .0) (predecessorAt P (gapOf P)) (w .at) (w .below) (omega arith) in

@@ -12,7 +12,7 @@ use Rattle.plan.specs.declared.Plan.{Plan}
 use Rattle.plan.specs.Numbers.{planBy, slots}
 use Rattle.plan.specs.Sending.{sends}
 use Rattle.plan.specs.Tested.{activeOutside, guardOrTailWrong, minOrMaxWrong, someNotActive, sharesSlot, someShared, planNumber}
-use Rattle.gap.specs.Gap.{nearest, predecessor, gapAt, gapOf}
+use Rattle.gap.specs.Gap.{nearest, predecessor, distanceBefore, gapOf}
 use Rattle.rules.specs.Rules.{sidesAt, outcomeBy, verdictAt, verdictOf}
 use Rattle.run.specs.declared.Step.{Step}
 use Rattle.run.specs.declared.Step.the-variants.{Delay, TickOf, SendOf}
@@ -74,5 +74,5 @@ Right [] = Unit {0}
 Right (w ∷ more) = (shownSteps (w .plan) (length (w .steps) + 10) freshPlace ≡ w .steps) × Right more
 
 worked-right : Right worked
-unfolding D T S shown worked Right firstOf anyBelow allBelow firstFrom largestBelow leastBelow over distance sends activeOutside guardOrTailWrong minOrMaxWrong someNotActive sharesSlot someShared planNumber nearest predecessor gapAt gapOf sidesAt outcomeBy verdictAt verdictOf freshRun inRange sendsApart outOfStep clockAfter modeAfter slotAfter stepNumber predecessorAt widestFrom widestNode partsFor freshPlace dueTime pastDue goesFirst goesSecond nextStep markAfter givenBy givenFor givenOf
+unfolding D T S shown worked Right firstOf anyBelow allBelow firstFrom largestBelow leastBelow over distance sends activeOutside guardOrTailWrong minOrMaxWrong someNotActive sharesSlot someShared planNumber nearest predecessor distanceBefore gapOf sidesAt outcomeBy verdictAt verdictOf freshRun inRange sendsApart outOfStep clockAfter modeAfter slotAfter stepNumber predecessorAt widestFrom widestNode partsFor freshPlace dueTime pastDue goesFirst goesSecond nextStep markAfter givenBy givenFor givenOf
 worked-right = (refl, (refl, (refl, (refl, (refl, (refl, (refl, tt)))))))

@@ -5,14 +5,14 @@ use lib.Dec.{eqb}
 use Rattle.laws.specs.Below.{firstBelow, leastBelow}
 use Rattle.plan.specs.declared.Plan.{Plan}
 use Rattle.plan.specs.Sending.{own}
-use Rattle.gap.specs.Gap.{predecessor, gapFor, gapOf}
+use Rattle.gap.specs.Gap.{predecessor, distanceFor, gapOf}
 use Rattle.rules.specs.declared.Rule.{Rule}
 use Rattle.rules.specs.declared.Rule.the-variants.{One, Two, Three}
 use Rattle.shown.specs.declared.Parts.{Parts}
 
 -- The predecessor of node i's sending slot, where its D is m; C, which is no slot, where it is not.
 unfoldable pub predecessorAt : Plan → (m i : ℕ) → ℕ
-predecessorAt P m i = cond (eqb (gapFor P i) m) (predecessor P (own P i)) (P .frame .0)
+predecessorAt P m i = cond (eqb (distanceFor P i) m) (predecessor P (own P i)) (P .frame .0)
 
 -- p of rules 1 and 2: the smallest predecessor of a sending slot with D = M.
 unfoldable pub widestFrom : Plan → ℕ

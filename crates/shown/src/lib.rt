@@ -12,8 +12,8 @@ ghost use Rattle.run.specs.State.{inRange};
 ghost use Rattle.shown.specs.Shown.{freshPlace, stays, givenBy, givenOf};
 use choosing::mark_after;
 use choosing::next_step;
-use gap::gaps_tested;
-use gap::widest_tested;
+use gap::distances_tested;
+use gap::gap_tested;
 use looking::look_round;
 use plan::Node;
 use plan::Plan;
@@ -139,13 +139,13 @@ pub fn next_shown(plan: Plan, place: Place) -> Given
     if !in_range(plan, place.run) {
         return stays(Next::Refused(RUN_OUTSIDE), place);
     }
-    let gaps = gaps_tested(plan);
-    let gap = widest_tested(plan, gaps);
+    let distances = distances_tested(plan);
+    let gap = gap_tested(plan, distances);
     let verdict = verdict_tested(plan, gap);
     let outcome = verdict.outcome;
     let Outcome::Fails(rule) = outcome else {
         return stays(Next::Finished, place);
     };
-    let parts = parts_tested(plan, gaps, gap, rule);
+    let parts = parts_tested(plan, distances, gap, rule);
     given_tested(plan, parts, place)
 }

@@ -1,4 +1,4 @@
-// Who plays which part, from the gaps of a tested plan: loops over the nodes, none over the frame.
+// Who plays which part, from the distances of a tested plan: loops over the nodes, none over the frame.
 ghost use mathlib.Core.Path.{_≡_};
 ghost use mathlib.Core.Bool.{cond, not, _&&_};
 ghost use Prim.Native.Nat.{min};
@@ -6,11 +6,11 @@ ghost use lib.Dec.{eqb};
 ghost use Rattle.laws.specs.Below.{firstBelow};
 ghost use Rattle.plan.specs.Tested.{planNumber, Sound};
 ghost use Rattle.gap.specs.Gap.{gapOf};
-ghost use Rattle.gap.specs.Gaps.{gapsOf};
+ghost use Rattle.gap.specs.Distances.{distancesOf};
 ghost use Rattle.shown.specs.Parts.{widestFrom, widestNode, senderIn, silentIn, partsWith, partsFor};
 use crate::Parts;
-use gap::Gaps;
-use gap::NodeGap;
+use gap::Distances;
+use gap::NodeDistance;
 use plan::Node;
 use plan::Plan;
 use plan::Slot;
@@ -26,42 +26,42 @@ fn smaller(a: u16, b: u16) -> u16
 }
 
 // The predecessor of a node's sending slot where its D is M; C, which is no slot, where it is not.
-fn predecessor_at(node: NodeGap, gap: Slot, frame: Slot) -> u16
-    ensures { λ r. ⌜ r ≡ cond (eqb (node .gap .0) (gap .0)) (node .predecessor .0) (frame .0) ⌝ }
+fn predecessor_at(node: NodeDistance, gap: Slot, frame: Slot) -> u16
+    ensures { λ r. ⌜ r ≡ cond (eqb (node .distance .0) (gap .0)) (node .predecessor .0) (frame .0) ⌝ }
 {
-    if node.gap.0 == gap.0 {
+    if node.distance.0 == gap.0 {
         return node.predecessor.0;
     }
     frame.0
 }
 
 // p of rules 1 and 2.
-fn widest_from(plan: Plan, gaps: Gaps, gap: Slot) -> Slot
+fn widest_from(plan: Plan, distances: Distances, gap: Slot) -> Slot
     requires { ⌜ Sound plan ⌝ }
-    requires { ⌜ gaps ≡ gapsOf plan ⌝ }
+    requires { ⌜ distances ≡ distancesOf plan ⌝ }
     requires { ⌜ gap .0 ≡ gapOf plan ⌝ }
     ensures { λ r. ⌜ r .0 ≡ widestFrom plan ⌝ }
 {
     let nodes = plan.nodes.0 as usize;
     let mut least = plan.frame.0;
     for i in 0..nodes {
-        let node = gaps.nodes[i];
+        let node = distances.nodes[i];
         least = smaller(least, predecessor_at(node, gap, plan.frame));
     }
     Slot(least)
 }
 
 // The node that sends in s of rules 1 and 2.
-fn widest_node(plan: Plan, gaps: Gaps, gap: Slot, from: Slot) -> Node
+fn widest_node(plan: Plan, distances: Distances, gap: Slot, from: Slot) -> Node
     requires { ⌜ Sound plan ⌝ }
-    requires { ⌜ gaps ≡ gapsOf plan ⌝ }
+    requires { ⌜ distances ≡ distancesOf plan ⌝ }
     requires { ⌜ gap .0 ≡ gapOf plan ⌝ }
     requires { ⌜ from .0 ≡ widestFrom plan ⌝ }
     ensures { λ r. ⌜ r .0 ≡ widestNode plan ⌝ }
 {
     let nodes = plan.nodes.0 as usize;
     for i in 0..nodes {
-        let node = gaps.nodes[i];
+        let node = distances.nodes[i];
         if predecessor_at(node, gap, plan.frame) == from.0 {
             return Node(i as u32);
         }
@@ -122,21 +122,21 @@ fn parts_with(plan: Plan, p: Slot, fast: Node) -> Parts
 }
 
 // The parts of the run shown for a rule.
-pub fn parts_tested(plan: Plan, gaps: Gaps, gap: Slot, rule: Rule) -> Parts
+pub fn parts_tested(plan: Plan, distances: Distances, gap: Slot, rule: Rule) -> Parts
     requires { ⌜ planNumber plan ≡ 0 ⌝ }
-    requires { ⌜ gaps ≡ gapsOf plan ⌝ }
+    requires { ⌜ distances ≡ distancesOf plan ⌝ }
     requires { ⌜ gap .0 ≡ gapOf plan ⌝ }
     ensures { λ r. ⌜ r ≡ partsFor plan rule ⌝ }
 {
     match rule {
         Rule::One => {
-            let p = widest_from(plan, gaps, gap);
-            let fast = widest_node(plan, gaps, gap, p);
+            let p = widest_from(plan, distances, gap);
+            let fast = widest_node(plan, distances, gap, p);
             parts_with(plan, p, fast)
         }
         Rule::Two => {
-            let p = widest_from(plan, gaps, gap);
-            let widest = widest_node(plan, gaps, gap, p);
+            let p = widest_from(plan, distances, gap);
+            let widest = widest_node(plan, distances, gap, p);
             let s = plan.slots[widest.0 as usize];
             let fast = first_silent(plan, p, s);
             parts_with(plan, p, fast)

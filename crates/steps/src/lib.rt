@@ -30,7 +30,7 @@ use run::Step;
 use run::Stepped;
 use run::in_range;
 use run::is_about;
-use run::is_apart;
+use run::is_out_of_step;
 
 // Some node is about to send.
 fn some_about(plan: Plan, run: Run) -> bool
@@ -119,7 +119,7 @@ fn step_number(plan: Plan, run: Run, step: Step) -> u8
     requires { ⌜ inRange plan run ≡ true ⌝ }
     ensures { λ r. ⌜ r ≡ stepNumber plan run step ⌝ }
 {
-    if is_apart(plan, run) {
+    if is_out_of_step(plan, run) {
         return OUT_OF_STEP;
     }
     match step {

@@ -9,7 +9,7 @@ use Rattle.plan.specs.declared.Plan.{Plan}
 use Rattle.plan.specs.Refusals.{line-wrong, run-outside}
 use Rattle.rules.specs.Rules.{verdictOf}
 use Rattle.run.specs.declared.Run.{Run}
-use Rattle.run.specs.State.{freshRun, inRange, apartOf}
+use Rattle.run.specs.State.{freshRun, inRange, apartTested}
 use Rattle.run.specs.Steps.{stepTested}
 use Rattle.run.specs.Reckoning.{reckonedTested}
 use Rattle.shown.specs.declared.Place.{Place}
@@ -101,7 +101,7 @@ apartAnswer file run answer = answered (otherThan 291 run || otherThan 9 answer)
 
 unfoldable pub apartLeaves : (file run answer : List ℕ) → List ℕ
 apartLeaves file run answer =
-    leaves (apartAnswer file run answer) (apartBytes (apartOf (planIn file) (runFor (planIn file) run)) answer) answer
+    leaves (apartAnswer file run answer) (apartBytes (apartTested (planIn file) (runFor (planIn file) run)) answer) answer
 
 -- A node's reckoning: 10, then what the reckoning answers.
 unfoldable pub reckonRows : Plan → List ℕ → (i : ℕ) → List Row

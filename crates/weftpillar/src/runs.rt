@@ -3,7 +3,7 @@ ghost use mathlib.Core.Path.{_≡_};
 ghost use lib.ListN.{length};
 ghost use Rattle.laws.specs.Row.{firstOf};
 ghost use Rattle.plan.specs.Tested.{planNumber};
-ghost use Rattle.run.specs.State.{apartOf};
+ghost use Rattle.run.specs.State.{apartTested};
 ghost use Rattle.weftpillar.specs.Answers.{leaves};
 ghost use Rattle.weftpillar.specs.Forms.{apartBytes};
 ghost use Rattle.weftpillar.specs.Calls.{runFor, runOutside, stepRows, stepWrites, apartRows, reckonRows, reckonWrites};
@@ -69,7 +69,7 @@ pub fn apart_on(plan: Plan, run: &[u8], answer: &mut [u8]) -> u8
     requires { ⌜ length (now run) ≡ 291 ⌝ }
     requires { ⌜ length (now answer) ≡ 9 ⌝ }
     ensures { λ r. ⌜ r ≡ firstOf (apartRows plan (now (run .entry))) ⌝ }
-    ensures { λ r. ⌜ now (answer .exit) ≡ leaves r (apartBytes (apartOf plan (runFor plan (now (run .entry)))) (now (answer .entry))) (now (answer .entry)) ⌝ }
+    ensures { λ r. ⌜ now (answer .exit) ≡ leaves r (apartBytes (apartTested plan (runFor plan (now (run .entry)))) (now (answer .entry))) (now (answer .entry)) ⌝ }
 {
     if run_outside(plan, run) {
         return RUN_OUTSIDE;

@@ -6,8 +6,8 @@ ghost use lib.Seq.{sets};
 ghost use Rattle.plan.specs.Tested.{planNumber};
 ghost use Rattle.rules.specs.Rules.{verdictOf};
 ghost use Rattle.weftpillar.specs.Forms.{outcomeNumber, sidesBytes, verdictBytes};
-use gap::gaps_tested;
-use gap::widest_tested;
+use gap::distances_tested;
+use gap::gap_tested;
 use plan::Plan;
 use rules::Outcome;
 use rules::Sides;
@@ -22,8 +22,8 @@ pub fn verdict_by(plan: Plan) -> Verdict
     requires { ⌜ planNumber plan ≡ 0 ⌝ }
     ensures { λ r. ⌜ r ≡ verdictOf plan ⌝ }
 {
-    let gaps = gaps_tested(plan);
-    let gap = widest_tested(plan, gaps);
+    let distances = distances_tested(plan);
+    let gap = gap_tested(plan, distances);
     verdict_tested(plan, gap)
 }
 

@@ -4,11 +4,11 @@ use borrow.Author.Needs.{needs}
 use Rattle.judging.proofs.judged.Statement.{statement}
 use Rattle.judging.proofs.judged.Tie as tie
 
-gaps-tested-requires : tie.Need-gaps-tested-requires
-gaps-tested-requires c κs = search needs
+distances-tested-requires : tie.Need-distances-tested-requires
+distances-tested-requires c κs = search needs
 
-widest-tested-requires : tie.Need-widest-tested-requires
-widest-tested-requires c κs = search needs
+gap-tested-requires : tie.Need-gap-tested-requires
+gap-tested-requires c κs = search needs
 
 verdict-tested-requires : tie.Need-verdict-tested-requires
 verdict-tested-requires c κs = search needs
@@ -58,8 +58,8 @@ pub judged-spec : {M : Type 1} → statement M
 judged-spec =
     tie.close
     (tie.spec
-    gaps-tested-requires
-    widest-tested-requires
+    distances-tested-requires
+    gap-tested-requires
     verdict-tested-requires
     write-judged-requires
     waiting-after-requires

@@ -12,11 +12,11 @@ returns : tie.Need-returns
 unfolding judgedOf
 returns c = rw (← c .before .plan-number .ensures, ne-eqb _ 0 (c .if1 .taken))
 
-gaps-tested-requires : tie.Need-gaps-tested-requires
-gaps-tested-requires c κs = search needs
+distances-tested-requires : tie.Need-distances-tested-requires
+distances-tested-requires c κs = search needs
 
-widest-tested-requires : tie.Need-widest-tested-requires
-widest-tested-requires c κs = search needs
+gap-tested-requires : tie.Need-gap-tested-requires
+gap-tested-requires c κs = search needs
 
 verdict-tested-requires : tie.Need-verdict-tested-requires
 verdict-tested-requires c κs = search needs
@@ -31,7 +31,7 @@ judge-spec =
     (tie.spec
     plan-number-requires
     returns
-    gaps-tested-requires
-    widest-tested-requires
+    distances-tested-requires
+    gap-tested-requires
     verdict-tested-requires
     returns-2)

@@ -4,7 +4,7 @@ use borrow.Author.Tests.{eq-eqb, ne-eqb, not-true, not-false}
 use borrow.Author.Needs.{needs}
 use Rattle.plan.specs.Tested.{planNumber}
 use Rattle.plan.proofs.Sound.{sound}
-use Rattle.run.specs.Steps.{apartTest}
+use Rattle.run.specs.Steps.{apartOf}
 use Rattle.run.proofs.out_of_step.Statement.{statement}
 use Rattle.run.proofs.out_of_step.Tie as tie
 
@@ -16,14 +16,14 @@ plan-number-requires : tie.Need-plan-number-requires
 plan-number-requires c κs = search needs
 
 returns : tie.Need-returns
-unfolding apartTest
+unfolding apartOf
 returns c = rw (← c .before .plan-number .ensures, ne-eqb (c .before .plan-number .result) 0 (c .if1 .taken))
 
 in-range-requires : tie.Need-in-range-requires
 in-range-requires c κs = sound (c .before .before .args .plan) (passed c)
 
 returns-2 : tie.Need-returns-2
-unfolding apartTest
+unfolding apartOf
 returns-2 c =
     rw (eq-eqb (planNumber (c .before .before .before .before .args .plan)) 0 (passed (c .before .before)), sym (c .before .in-range .ensures) ∙ not-true (c .before .in-range .result) (c .if2 .taken))
 
@@ -31,7 +31,7 @@ apart-tested-requires : tie.Need-apart-tested-requires
 apart-tested-requires c κs = sound (c .before .before .before .before .args .plan) (passed (c .before .before))
 
 returns-3 : tie.Need-returns-3
-unfolding apartTest
+unfolding apartOf
 returns-3 c =
     rw (eq-eqb (planNumber (c .before .before .before .before .before .args .plan)) 0 (passed (c .before .before .before)), sym (c .before .before .in-range .ensures) ∙ not-false (c .before .before .in-range .result) (c .before .if2 .left)) (c .apart-tested .ensures)
 

@@ -48,11 +48,11 @@ returns-2 c =
     let r = c .before .before .in-range in
     rw (eq-eqb (planNumber _) 0 (plain (c .before .before .before)), ← r .ensures, true-not-false (r .result) (c .before .if2 .taken)) (c .stays2 .ensures)
 
-gaps-tested-requires : tie.Need-gaps-tested-requires
-gaps-tested-requires c κs = search needs
+distances-tested-requires : tie.Need-distances-tested-requires
+distances-tested-requires c κs = search needs
 
-widest-tested-requires : tie.Need-widest-tested-requires
-widest-tested-requires c κs = search needs
+gap-tested-requires : tie.Need-gap-tested-requires
+gap-tested-requires c κs = search needs
 
 verdict-tested-requires : tie.Need-verdict-tested-requires
 verdict-tested-requires c κs = search needs
@@ -100,8 +100,8 @@ next-shown-spec =
     in-range-requires
     stays-requires-2
     returns-2
-    gaps-tested-requires
-    widest-tested-requires
+    distances-tested-requires
+    gap-tested-requires
     verdict-tested-requires
     enum-known-outcome
     enum-told

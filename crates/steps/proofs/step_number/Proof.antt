@@ -6,12 +6,12 @@ use Rattle.run.specs.Steps.{stepNumber}
 use Rattle.steps.proofs.step_number.Statement.{statement}
 use Rattle.steps.proofs.step_number.Tie as tie
 
-is-apart-requires : tie.Need-is-apart-requires
-is-apart-requires c κs = search needs
+is-out-of-step-requires : tie.Need-is-out-of-step-requires
+is-out-of-step-requires c κs = search needs
 
 returns : tie.Need-returns
 unfolding stepNumber firstOf
-returns c = rw (c .before .before .pre .1, sym (c .before .is-apart .ensures) ∙ c .if1 .taken)
+returns c = rw (c .before .before .pre .1, sym (c .before .is-out-of-step .ensures) ∙ c .if1 .taken)
 
 enum-known-step : tie.Need-enum-known-step
 enum-known-step c = search needs
@@ -33,21 +33,21 @@ send-number-requires c κs = search needs
 
 returns-2 : tie.Need-returns-2
 unfolding stepNumber firstOf
-returns-2 c = rw (c .before .before .step .given .1, c .before .before .before .before .before .before .pre .1, sym (c .before .before .before .before .before .is-apart .ensures) ∙ c .before .before .before .before .if1 .left) (c .delay-number .ensures)
+returns-2 c = rw (c .before .before .step .given .1, c .before .before .before .before .before .before .pre .1, sym (c .before .before .before .before .before .is-out-of-step .ensures) ∙ c .before .before .before .before .if1 .left) (c .delay-number .ensures)
 
 returns-3 : tie.Need-returns-3
 unfolding stepNumber firstOf
-returns-3 c = rw (c .before .before .step2 .given .1, c .before .before .before .before .before .before .pre .1, sym (c .before .before .before .before .before .is-apart .ensures) ∙ c .before .before .before .before .if1 .left) (c .tick-number .ensures)
+returns-3 c = rw (c .before .before .step2 .given .1, c .before .before .before .before .before .before .pre .1, sym (c .before .before .before .before .before .is-out-of-step .ensures) ∙ c .before .before .before .before .if1 .left) (c .tick-number .ensures)
 
 returns-4 : tie.Need-returns-4
 unfolding stepNumber firstOf
-returns-4 c = rw (c .before .before .step3 .given .1, c .before .before .before .before .before .before .pre .1, sym (c .before .before .before .before .before .is-apart .ensures) ∙ c .before .before .before .before .if1 .left) (c .send-number .ensures)
+returns-4 c = rw (c .before .before .step3 .given .1, c .before .before .before .before .before .before .pre .1, sym (c .before .before .before .before .before .is-out-of-step .ensures) ∙ c .before .before .before .before .if1 .left) (c .send-number .ensures)
 
 pub step-number-spec : {M : Type 1} → statement M
 step-number-spec =
     tie.close
     (tie.spec
-    is-apart-requires
+    is-out-of-step-requires
     returns
     enum-known-step
     delay-number-requires

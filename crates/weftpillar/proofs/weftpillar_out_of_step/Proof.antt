@@ -3,7 +3,7 @@ use Rattle.weftpillar.specs.Calls.{apartAnswer, apartLeaves, apartRows, 
 use Rattle.weftpillar.specs.Answers.{planIn, leaves}
 use Rattle.plan.specs.declared.Plan.{Plan}
 use Rattle.weftpillar.specs.Forms.{apartBytes}
-use Rattle.run.specs.State.{apartOf}
+use Rattle.run.specs.State.{apartTested}
 use Rattle.laws.specs.Row.{firstOf}
 use Prim.Native.Nat.{ℕ}
 use denote.Ref.{now}
@@ -51,7 +51,7 @@ returns-3 c =
     d .ensures .0
     ∙ ap (λ (P : Plan). firstOf (apartRows P (now (a .run)))) (t .ensures .1)
     ∙ by-rows _ _ (λ P. apartRows P (now (a .run))) (sym (c .before .before .before .before .before .before .before .before .lengths-differ .ensures) ∙ c .before .before .before .before .before .before .before .if1 .left) (sym (t .ensures .0) ∙ c .before .before .before .before .if2 .left) in
-    (e, d .ensures .1 ∙ ap (λ (P : Plan). leaves (d .result) (apartBytes (apartOf P (runFor P (now (a .run)))) (now (a .answer))) (now (a .answer))) (t .ensures .1) ∙ ap (λ (n : ℕ). leaves n (apartBytes (apartOf (planIn (now (a .plan))) (runFor (planIn (now (a .plan))) (now (a .run)))) (now (a .answer))) (now (a .answer))) e)
+    (e, d .ensures .1 ∙ ap (λ (P : Plan). leaves (d .result) (apartBytes (apartTested P (runFor P (now (a .run)))) (now (a .answer))) (now (a .answer))) (t .ensures .1) ∙ ap (λ (n : ℕ). leaves n (apartBytes (apartTested (planIn (now (a .plan))) (runFor (planIn (now (a .plan))) (now (a .run)))) (now (a .answer))) (now (a .answer))) e)
 
 pub weftpillar-out-of-step-spec : {M : Type 1} → statement M
 weftpillar-out-of-step-spec =

@@ -11,10 +11,10 @@ use Rattle.shown.proofs.players.widest_from.Statement.{statement}
 use Rattle.shown.proofs.players.widest_from.Tie as tie
 
 abbrev Inv-loop : tie.InvT-loop
-Inv-loop plan gap gaps nodes least₀ i₀ least i = (i ≤ nodes) × (least ≡ leastBelow (plan .frame .0) i (predecessorAt plan (gapOf plan)))
+Inv-loop plan gap distances nodes least₀ i₀ least i = (i ≤ nodes) × (least ≡ leastBelow (plan .frame .0) i (predecessorAt plan (gapOf plan)))
 
 abbrev μ-loop : tie.MeasureT-loop
-μ-loop plan gap gaps nodes least₀ i₀ least i = nodes - i
+μ-loop plan gap distances nodes least₀ i₀ least i = nodes - i
 
 cast-nodes : tie.Need-cast-nodes Inv-loop μ-loop
 cast-nodes c = search needs

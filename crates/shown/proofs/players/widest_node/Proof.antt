@@ -13,10 +13,10 @@ use Rattle.shown.proofs.players.widest_node.Statement.{statement}
 use Rattle.shown.proofs.players.widest_node.Tie as tie
 
 abbrev Inv-loop : tie.InvT-loop
-Inv-loop plan gap from gaps nodes i₀ i = (i ≤ nodes) × ((k : ℕ) → k < i → eqb (predecessorAt plan (gapOf plan) k) (widestFrom plan) ≡ false)
+Inv-loop plan gap from distances nodes i₀ i = (i ≤ nodes) × ((k : ℕ) → k < i → eqb (predecessorAt plan (gapOf plan) k) (widestFrom plan) ≡ false)
 
 abbrev μ-loop : tie.MeasureT-loop
-μ-loop plan gap from gaps nodes i₀ i = nodes - i
+μ-loop plan gap from distances nodes i₀ i = nodes - i
 
 cast-nodes : tie.Need-cast-nodes Inv-loop μ-loop
 cast-nodes c = search needs

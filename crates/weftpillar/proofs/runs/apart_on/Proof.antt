@@ -2,7 +2,7 @@ use Rattle.weftpillar.proofs.Calling.{none-given, refused-leaves, done-
 use Rattle.weftpillar.specs.Calls.{apartRows}
 use Rattle.weftpillar.specs.Forms.{apartBytes}
 use Rattle.weftpillar.specs.Answers.{leaves}
-use Rattle.run.specs.State.{apartOf}
+use Rattle.run.specs.State.{apartTested}
 use Rattle.plan.specs.Refusals.{run-outside}
 use mathlib.Core.Path.{refl, sym, ap, _∙_}
 use Rattle.run.specs.declared.Apart.{Apart}
@@ -42,7 +42,7 @@ returns-2 : tie.Need-returns-2
 unfolding apartRows
 returns-2 c =
     let a = c .before .before .before .before .before .before .before .before .before .before .before .args in
-    let d = c .before .before .before .apart-tested .ensures ∙ ap (λ (r : Run). apartOf (a .plan) r) (c .before .before .before .before .before .read-run .ensures) in (
+    let d = c .before .before .before .apart-tested .ensures ∙ ap (λ (r : Run). apartTested (a .plan) r) (c .before .before .before .before .before .read-run .ensures) in (
       sym (first-next (given run-outside _) _ (sym (c .before .before .before .before .before .before .before .before .run-outside .ensures) ∙ c .before .before .before .before .before .before .before .if1 .left) ∙ none-given),
       done-leaves 0 _ _ _ refl (c .before .before .write-apart .ensures ∙ ap (λ (x : Apart). apartBytes x (now (a .answer))) d),
     )

@@ -1,7 +1,7 @@
-use Rattle.gap.proofs.Table.{gaps-at}
-use Rattle.gap.specs.Gaps.{noGap}
-use Rattle.gap.specs.Gap.{gapFor, gapOf}
-use Rattle.gap.specs.declared.NodeGap.{NodeGap}
+use Rattle.gap.proofs.Table.{distances-at}
+use Rattle.gap.specs.Distances.{noDistance}
+use Rattle.gap.specs.Gap.{distanceFor, gapOf}
+use Rattle.gap.specs.declared.NodeDistance.{NodeDistance}
 use Rattle.plan.proofs.Sound.{sound}
 use Rattle.laws.proofs.Belows.{largest-none, largest-more, largest-same}
 use Rattle.laws.specs.Below.{largestBelow}
@@ -10,14 +10,14 @@ use native.Mathlib.Omega.{arith}
 use mathlib.Core.Path.{_≡_, sym, ap, _∙_}
 use Prim.Native.Nat.{ℕ, _≤_, _-_}
 use borrow.Author.Needs.{needs}
-use Rattle.gap.proofs.widest_tested.Statement.{statement}
-use Rattle.gap.proofs.widest_tested.Tie as tie
+use Rattle.gap.proofs.gap_tested.Statement.{statement}
+use Rattle.gap.proofs.gap_tested.Tie as tie
 
 abbrev Inv-loop : tie.InvT-loop
-Inv-loop gaps nodes widest₀ i₀ widest i = (i ≤ nodes) × (widest ≡ largestBelow i (λ k. getD (gaps .nodes) k noGap .gap .0))
+Inv-loop distances nodes widest₀ i₀ widest i = (i ≤ nodes) × (widest ≡ largestBelow i (λ k. getD (distances .nodes) k noDistance .distance .0))
 
 abbrev μ-loop : tie.MeasureT-loop
-μ-loop gaps nodes widest₀ i₀ widest i = nodes - i
+μ-loop distances nodes widest₀ i₀ widest i = nodes - i
 
 cast-nodes : tie.Need-cast-nodes Inv-loop μ-loop
 cast-nodes c = search needs
@@ -45,18 +45,18 @@ loop-less c = search needs
 loop-again : tie.Need-loop-again Inv-loop μ-loop
 loop-again c = let a = c .before .before .before .before .before .args in
     let l = c .before .before .before .loop in
-    (omega arith, c .larger .ensures ∙ rw (l .inv .1) (sym (largest-more (l .i) (λ (k : ℕ). getD (a .t2 .nodes) k noGap .gap .0))))
+    (omega arith, c .larger .ensures ∙ rw (l .inv .1) (sym (largest-more (l .i) (λ (k : ℕ). getD (a .t2 .nodes) k noDistance .distance .0))))
 
 returns : tie.Need-returns Inv-loop μ-loop
 unfolding gapOf
 returns c = let l = c .before .loop in
     let a = c .before .before .before .args in
     let e : l .i ≡ a .plan .nodes .0 = omega arith in
-    l .inv .1 ∙ ap (λ (n : ℕ). largestBelow n (λ (k : ℕ). getD (a .t2 .nodes) k noGap .gap .0)) e
-    ∙ largest-same (a .plan .nodes .0) (λ (k : ℕ). getD (a .t2 .nodes) k noGap .gap .0) (gapFor (a .plan)) (λ i h. ap (λ (x : NodeGap). x .gap .0) (gaps-at (a .plan) (a .t2) (c .before .before .before .pre .1) i h (omega (arith, sound (a .plan) (c .before .before .before .pre .0) .nodes-high))))
+    l .inv .1 ∙ ap (λ (n : ℕ). largestBelow n (λ (k : ℕ). getD (a .t2 .nodes) k noDistance .distance .0)) e
+    ∙ largest-same (a .plan .nodes .0) (λ (k : ℕ). getD (a .t2 .nodes) k noDistance .distance .0) (distanceFor (a .plan)) (λ i h. ap (λ (x : NodeDistance). x .distance .0) (distances-at (a .plan) (a .t2) (c .before .before .before .pre .1) i h (omega (arith, sound (a .plan) (c .before .before .before .pre .0) .nodes-high))))
 
-pub widest-tested-spec : {M : Type 1} → statement M
-widest-tested-spec =
+pub gap-tested-spec : {M : Type 1} → statement M
+gap-tested-spec =
     tie.close
     (tie.spec
     Inv-loop

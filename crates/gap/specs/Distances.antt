@@ -8,9 +8,9 @@ use lib.Dec.{eqb}
 use Rattle.laws.specs.Over.{over}
 use Rattle.plan.specs.declared.Plan.{Plan}
 use Rattle.plan.specs.Sending.{own, sends}
-use Rattle.gap.specs.declared.NodeGap.{NodeGap}
-use Rattle.gap.specs.declared.Gaps.{Gaps}
-use Rattle.gap.specs.Gap.{predecessor, gapAt}
+use Rattle.gap.specs.declared.NodeDistance.{NodeDistance}
+use Rattle.gap.specs.declared.Distances.{Distances}
+use Rattle.gap.specs.Gap.{predecessor, distanceBefore}
 
 -- Slot s is marked as occupied in a table.
 abbrev pub taken : List ℕ → ℕ → Bool
@@ -22,12 +22,12 @@ pub record Occupied (P : Plan) (table : List ℕ) : Type 0 where
   pub marks : (s : ℕ) → getD table s 0 ≡ cond (sends P s) 1 0
 
 -- The predecessor of slot s, and D(s).
-abbrev pub nodeGap : Plan → ℕ → NodeGap
-nodeGap P s = record { predecessor = record { 0 = predecessor P s }; gap = record { 0 = gapAt P s } }
+abbrev pub nodeDistance : Plan → ℕ → NodeDistance
+nodeDistance P s = record { predecessor = record { 0 = predecessor P s }; distance = record { 0 = distanceBefore P s } }
 
-abbrev pub noGap : NodeGap
-noGap = record { predecessor = record { 0 = 0 }; gap = record { 0 = 0 } }
+abbrev pub noDistance : NodeDistance
+noDistance = record { predecessor = record { 0 = 0 }; distance = record { 0 = 0 } }
 
 -- These of each node's sending slot; 0 for places from N on.
-unfoldable pub gapsOf : Plan → Gaps
-gapsOf P = record { nodes = over (P .nodes .0) (λ i x. nodeGap P (own P i)) (replicate 32 noGap) }
+unfoldable pub distancesOf : Plan → Distances
+distancesOf P = record { nodes = over (P .nodes .0) (λ i x. nodeDistance P (own P i)) (replicate 32 noDistance) }

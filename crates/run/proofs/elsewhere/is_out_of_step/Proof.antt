@@ -2,8 +2,8 @@
 use mathlib.Core.Path.{sym, ap, _∙_}
 use borrow.Author.Needs.{needs}
 use Rattle.run.proofs.Apartness.{isOut, out-of-step-told}
-use Rattle.run.proofs.elsewhere.is_apart.Statement.{statement}
-use Rattle.run.proofs.elsewhere.is_apart.Tie as tie
+use Rattle.run.proofs.elsewhere.is_out_of_step.Statement.{statement}
+use Rattle.run.proofs.elsewhere.is_out_of_step.Tie as tie
 
 apart-tested-requires : tie.Need-apart-tested-requires
 apart-tested-requires c κs = search needs
@@ -26,7 +26,7 @@ returns-2 c = sym (out-of-step-told (c .before .before .before .args .plan) (c .
 returns-3 : tie.Need-returns-3
 returns-3 c = sym (out-of-step-told (c .before .before .before .args .plan) (c .before .before .before .args .run) ∙ ap isOut (sym (c .before .before .apart-tested .ensures) ∙ c .enum-told3 .given .1))
 
-pub is-apart-spec : {M : Type 1} → statement M
-is-apart-spec =
+pub is-out-of-step-spec : {M : Type 1} → statement M
+is-out-of-step-spec =
     tie.close
     (tie.spec apart-tested-requires enum-told enum-told-2 enum-told-3 returns returns-2 returns-3)

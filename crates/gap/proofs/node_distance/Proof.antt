@@ -1,14 +1,14 @@
 use Rattle.gap.proofs.Table.{nearest-same, taken-sends}
-use Rattle.gap.specs.Gaps.{taken}
-use Rattle.gap.specs.Gap.{slotBefore, predecessor, gapAt}
+use Rattle.gap.specs.Distances.{taken}
+use Rattle.gap.specs.Gap.{slotBefore, predecessor, distanceBefore}
 use Rattle.plan.specs.Sending.{sends}
 use Rattle.laws.specs.Ring.{distance}
 use denote.Ref.{now}
 use mathlib.Core.Path.{_≡_, _∙_}
 use Prim.Native.Nat.{_+_, _-_, _%_}
 use borrow.Author.Needs.{needs}
-use Rattle.gap.proofs.node_gap.Statement.{statement}
-use Rattle.gap.proofs.node_gap.Tie as tie
+use Rattle.gap.proofs.node_distance.Statement.{statement}
+use Rattle.gap.proofs.node_distance.Tie as tie
 
 slot-before-requires : tie.Need-slot-before-requires
 slot-before-requires c κs = search needs
@@ -29,16 +29,16 @@ rem-t10 : tie.Need-rem-t10
 rem-t10 c = search needs
 
 returns : tie.Need-returns
-unfolding predecessor gapAt distance
+unfolding predecessor distanceBefore distance
 returns c = let a = c .before .before .before .before .args in
     let C = a .plan .frame .0 in
     let back = c .before .before .slot-before .ensures in
     let same = nearest-same (taken (now (a .table))) (sends (a .plan)) C (C - 1) (slotBefore C (a .slot .0)) (rw (back .0) at (back .1)) (λ x l. taken-sends (a .plan) (now (a .table)) (c .before .before .before .before .pre .1) x) in
     let p : c .before .nearest-taken .result ≡ predecessor (a .plan) (a .slot .0) = rw (back .0) at (c .before .nearest-taken .ensures .0) ∙ same in
-    λ j. record { predecessor = record { 0 = p j }; gap = record { 0 = (a .slot .0 + C - p j) % C } }
+    λ j. record { predecessor = record { 0 = p j }; distance = record { 0 = (a .slot .0 + C - p j) % C } }
 
-pub node-gap-spec : {M : Type 1} → statement M
-node-gap-spec =
+pub node-distance-spec : {M : Type 1} → statement M
+node-distance-spec =
     tie.close
     (tie.spec
     slot-before-requires
