@@ -16,6 +16,7 @@ use Rattle.gap.proofs.distances_tested.Reads as distances-tested
 use Rattle.gap.proofs.gap_tested.Reads as gap-tested
 use Rattle.rules.proofs.judge.Reads as judge
 use Rattle.rules.proofs.verdict_tested.Reads as verdict-tested
+use Rattle.rules.proofs.rule_number.Reads as rule-number
 use Rattle.run.proofs.fresh.Reads as fresh
 use Rattle.run.proofs.out_of_step.Reads as out-of-step
 use Rattle.run.proofs.is_about.Reads as is-about
@@ -53,6 +54,15 @@ use Rattle.step_lines.proofs.read_line.Reads as read-line
 use Rattle.run_bytes.proofs.read_run.Reads as read-run
 use Rattle.run_bytes.proofs.numbers_wrong.Reads as numbers-wrong
 use Rattle.run_bytes.proofs.bytes_wrong.Reads as bytes-wrong
+use Rattle.weftpillar.proofs.weftpillar_judge.Reads as weftpillar-judge
+use Rattle.weftpillar.proofs.weftpillar_fresh.Reads as weftpillar-fresh
+use Rattle.weftpillar.proofs.weftpillar_fresh_place.Reads as weftpillar-fresh-place
+use Rattle.weftpillar.proofs.weftpillar_step.Reads as weftpillar-step
+use Rattle.weftpillar.proofs.weftpillar_steps.Reads as weftpillar-steps
+use Rattle.weftpillar.proofs.weftpillar_out_of_step.Reads as weftpillar-out-of-step
+use Rattle.weftpillar.proofs.weftpillar_reckon.Reads as weftpillar-reckon
+use Rattle.weftpillar.proofs.weftpillar_next.Reads as weftpillar-next
+use Rattle.weftpillar.proofs.weftpillar_line.Reads as weftpillar-line
 use Rattle.run_bytes.proofs.put8.Reads as put8
 use Rattle.run_bytes.proofs.put16.Reads as put16
 use Rattle.run_bytes.proofs.put32.Reads as put32
@@ -94,6 +104,9 @@ judge-one κ a x y l m p q = p ∙ sym q
 
 pub verdict-tested-one : OneAnswer verdict-tested.Post
 verdict-tested-one κ a x y l m p q = p ∙ sym q
+
+pub rule-number-one : OneAnswer rule-number.Post
+rule-number-one κ a x y l m p q = p ∙ sym q
 
 -- run
 
@@ -225,6 +238,41 @@ numbers-wrong-one κ a x y l m p q = p ∙ sym q
 
 pub bytes-wrong-one : OneAnswer bytes-wrong.Post
 bytes-wrong-one κ a x y l m p q = p ∙ sym q
+
+-- weftpillar: each call and each buffer that it may write
+
+pub weftpillar-judge-one : One (λ κ l. now (l .1 .0)) weftpillar-judge.Post
+weftpillar-judge-one = record { answer = λ κ a x y l m p q. p .0 ∙ sym (q .0); left = λ κ a x y l m p q. p .1 ∙ sym (q .1) }
+
+pub weftpillar-fresh-one : One (λ κ l. now (l .0)) weftpillar-fresh.Post
+weftpillar-fresh-one = record { answer = λ κ a x y l m p q. p .0 ∙ sym (q .0); left = λ κ a x y l m p q. p .1 ∙ sym (q .1) }
+
+pub weftpillar-fresh-place-one : One (λ κ l. now (l .0)) weftpillar-fresh-place.Post
+weftpillar-fresh-place-one = record { answer = λ κ a x y l m p q. p .0 ∙ sym (q .0); left = λ κ a x y l m p q. p .1 ∙ sym (q .1) }
+
+pub weftpillar-step-one : One (λ κ l. now (l .1 .0)) weftpillar-step.Post
+weftpillar-step-one = record { answer = λ κ a x y l m p q. p .0 ∙ sym (q .0); left = λ κ a x y l m p q. p .1 ∙ sym (q .1) }
+
+pub weftpillar-steps-one : One (λ κ l. now (l .1 .0)) weftpillar-steps.Post
+weftpillar-steps-one = record { answer = λ κ a x y l m p q. p .0 ∙ sym (q .0); left = λ κ a x y l m p q. p .1 .0 ∙ sym (q .1 .0) }
+
+pub weftpillar-steps-second : OneLeft (λ κ l. now (l .1 .1 .1 .0)) weftpillar-steps.Post
+weftpillar-steps-second κ a x y l m p q = p .1 .1 ∙ sym (q .1 .1)
+
+pub weftpillar-out-of-step-one : One (λ κ l. now (l .1 .1 .0)) weftpillar-out-of-step.Post
+weftpillar-out-of-step-one = record { answer = λ κ a x y l m p q. p .0 ∙ sym (q .0); left = λ κ a x y l m p q. p .1 ∙ sym (q .1) }
+
+pub weftpillar-reckon-one : One (λ κ l. now (l .1 .1 .1 .0)) weftpillar-reckon.Post
+weftpillar-reckon-one = record { answer = λ κ a x y l m p q. p .0 ∙ sym (q .0); left = λ κ a x y l m p q. p .1 ∙ sym (q .1) }
+
+pub weftpillar-next-one : One (λ κ l. now (l .1 .0)) weftpillar-next.Post
+weftpillar-next-one = record { answer = λ κ a x y l m p q. p .0 ∙ sym (q .0); left = λ κ a x y l m p q. p .1 .0 ∙ sym (q .1 .0) }
+
+pub weftpillar-next-second : OneLeft (λ κ l. now (l .1 .1 .0)) weftpillar-next.Post
+weftpillar-next-second κ a x y l m p q = p .1 .1 ∙ sym (q .1 .1)
+
+pub weftpillar-line-one : One (λ κ l. now (l .1 .0)) weftpillar-line.Post
+weftpillar-line-one = record { answer = λ κ a x y l m p q. p .0 ∙ sym (q .0); left = λ κ a x y l m p q. p .1 ∙ sym (q .1) }
 
 -- run_bytes: numbers and runs put into a lent buffer
 
