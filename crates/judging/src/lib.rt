@@ -71,18 +71,18 @@ fn put_apart(out: &mut [u8], waiting: usize, apart: Apart) -> usize {
 fn show(plan: Plan, parts: Parts, out: &mut [u8], from: usize)
     requires { ⌜ Prepared plan parts ⌝ }
 {
-    let mut place = fresh_place();
+    let mut given = given_tested(plan, parts, fresh_place());
     let mut waiting = from;
     loop {
-        let given = given_tested(plan, parts, place);
         let next = given.next;
         let Next::Takes(step) = next else {
             break;
         };
         waiting = put_step(out, waiting, step);
-        let after = given.place;
-        place = after;
+        let place = given.place;
+        given = given_tested(plan, parts, place);
     }
+    let place = given.place;
     let run = place.run;
     let end = put_apart(out, waiting, apart_tested(plan, run));
     flushed(out, end);

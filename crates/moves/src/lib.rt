@@ -99,8 +99,8 @@ pub fn ticked(plan: Plan, run: Run, i: Node) -> Run
 {
     let k = i.0 as usize;
     let own = plan.slots[k];
-    let node = run.nodes[k];
     let mut next = run;
+    let node = next.nodes[k];
     next.nodes[k] = node_ticked(plan, own, node);
     next
 }

@@ -6,6 +6,7 @@ mod range;
 pub use elsewhere::apart_tested;
 pub use elsewhere::is_out_of_step;
 pub use modes::is_about;
+pub use modes::is_sending;
 pub use range::in_range;
 ghost use mathlib.Core.Path.{_≡_};
 ghost use Rattle.run.specs.State.{freshRun};

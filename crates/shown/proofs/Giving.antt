@@ -1,16 +1,14 @@
--- What is given out at a place: finished out of step, past due, or where the step is refused; else the next step.
+-- What is given out at a place: finished out of step or past due; else the next step, where it is legal.
 use Prim.Native.Nat.{ℕ}
 use mathlib.Core.Path.{_≡_, refl}
-use mathlib.Core.Bool.{Bool, true, false, cond, _||_}
+use mathlib.Core.Bool.{Bool, true, false}
 use native.Mathlib.Omega.{arith}
 use borrow.Author.Tests.{eq-eqb}
-use lib.Dec.{eqb}
 use Rattle.laws.proofs.Bools.{or-true-left, or-true-right, or-neither}
 use Rattle.plan.specs.declared.Plan.{Plan}
 use Rattle.run.specs.declared.Step.{Step}
 use Rattle.run.specs.State.{outOfStep}
-use Rattle.run.specs.declared.Answer.the-variants as answer
-use Rattle.run.specs.Steps.{stepNumber, stepTested}
+use Rattle.run.specs.Steps.{stepNumber}
 use Rattle.shown.specs.declared.Place.{Place}
 use Rattle.shown.specs.declared.Parts.{Parts}
 use Rattle.shown.specs.declared.Next.the-variants.{Takes, Finished}
@@ -31,17 +29,6 @@ module _ (P : Plan) (c : Parts) (q : Place) where
   pub given-takes : (s : Step) → nextStep P c q ≡ s → outOfStep P (q .run) ≡ false → pastDue P c q ≡ false → stepNumber P (q .run) s ≡ 0 → givenBy P c q ≡ record { next = Takes s; place = placeAfter P c q s }
   unfolding givenBy
   given-takes s e t d l = rw (or-neither (outOfStep P (q .run)) (pastDue P c q) t d, e, eq-eqb (stepNumber P (q .run) s) 0 l)
-
-  -- a step that is refused is none
-  pub given-refused : (s : Step) (n : ℕ) → nextStep P c q ≡ s → stepTested P (q .run) s .answer ≡ answer.Refused n → givenBy P c q ≡ stays Finished q
-  unfolding givenBy stepTested
-  given-refused s n e h = rw e (go (eqb (stepNumber P (q .run) s) 0) refl (outOfStep P (q .run) || pastDue P c q))
-    where
-      go : (b : Bool) → eqb (stepNumber P (q .run) s) 0 ≡ b → (stop : Bool)
-          → cond stop (stays Finished q) (cond b (record { next = Takes s; place = placeAfter P c q s }) (stays Finished q)) ≡ stays Finished q
-      go true e stop = absurd (let w : answer.Done ≡ answer.Refused n = rw e at h in let z : _≡_ {A = ℕ} 0 1 = cc in omega arith)
-      go false e true = refl
-      go false e false = refl
 
   -- what a look round tells
   pub looked-late : lookedOf P c q ≡ looked.PastDue → pastDue P c q ≡ true

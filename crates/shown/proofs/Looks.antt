@@ -13,7 +13,8 @@ use Rattle.plan.specs.declared.Node.{Node}
 use Rattle.plan.specs.declared.Time.{Time}
 use Rattle.run.specs.declared.Step.{Step}
 use Rattle.run.specs.declared.Step.the-variants.{Delay, TickOf, SendOf}
-use Rattle.run.specs.State.{node, isAbout}
+use Rattle.run.specs.declared.Run.{Run}
+use Rattle.run.specs.State.{node, isAbout, isSending, sendsApart, outOfStep}
 use Rattle.shown.specs.declared.Parts.{Parts}
 use Rattle.shown.specs.declared.Place.{Place}
 use Rattle.shown.specs.declared.Seen.{Seen}
@@ -76,6 +77,11 @@ module _ (P : Plan) (c : Parts) (q : Place) where
   pub on-time-looked : ((i : ℕ) → i < P .nodes .0 → node (q .run) i .time .0 ≤ dueTime P c (q .mark) i) → OnTime (seenFrom P c q 0) ≡ lookedOf P c q
   unfolding lookedOf pastDue
   on-time-looked h = rw (any-never (P .nodes .0) (λ k. ltb (dueTime P c (q .mark) k) (node (q .run) k .time .0)) (λ i l. le-ltb (dueTime P c (q .mark) i) (node (q .run) i .time .0) (h i l)))
+
+-- where nobody sends, the run is not out of step
+pub silent-in-step : (P : Plan) (r : Run) → ((i : ℕ) → i < P .nodes .0 → isSending (node r i .mode) ≡ false) → outOfStep P r ≡ false
+unfolding outOfStep sendsApart
+silent-in-step P r h = any-never (P .nodes .0) (sendsApart P r) (λ i l. rw (h i l))
 
 -- the step that was seen, where `wait` is the time to the first due moment
 abbrev pub chosen : Plan → Seen → Time → Step

@@ -3,17 +3,18 @@ use Prim.Native.Nat.{ℕ, _+_, _-_, _≤_, _<_}
 use mathlib.Core.Path.{_≡_}
 use mathlib.Core.Bool.{Bool, true, false, _&&_}
 use native.Mathlib.Omega.{arith}
-use borrow.Author.Tests.{ltb-true, eqb-true, eqb-false, le-ltb, eq-eqb}
+use borrow.Author.Tests.{ltb-true, ltb-false, eqb-true, eqb-false, le-ltb, eq-eqb}
 use lib.Dec.{eqb, ltb}
 use Rattle.laws.specs.Below.{firstBelow}
 use Rattle.laws.proofs.Bools.{and-true-left, and-true-right, cond-by}
-use Rattle.laws.proofs.Belows.{any-never, least-under, least-reached, first-is, first-is-none}
+use Rattle.laws.proofs.Belows.{any-not, any-never, least-under, least-reached, first-is, first-is-none}
 use Rattle.plan.specs.declared.Plan.{Plan}
 use Rattle.plan.specs.Tested.{Sound}
 use Rattle.run.specs.declared.Step.{Step}
 use Rattle.run.specs.declared.Step.the-variants.{Delay, TickOf, SendOf}
 use Rattle.run.specs.State.{node, isAbout, inRange, outOfStep}
-use Rattle.run.proofs.Legal.{StepLegal, KindLegal}
+use Rattle.run.specs.Steps.{stepNumber}
+use Rattle.run.proofs.Legal.{StepLegal, KindLegal, step-legal}
 use Rattle.shown.specs.declared.Mark.{Mark}
 use Rattle.shown.specs.declared.Mark.the-variants.{Before, In, After}
 use Rattle.shown.specs.declared.Place.{Place}
@@ -91,6 +92,12 @@ module _ (P : Plan) (c : Parts) (o : Sound P) (q : Place) where
       any-never (P .nodes .0) (λ i. ltb (dueTime P c (q .mark) i) (node (q .run) i .time .0))
       (λ i l. le-ltb (dueTime P c (q .mark) i) (node (q .run) i .time .0) (t i l))
 
+  pub not-late : pastDue P c q ≡ false → OnTime P c q
+  unfolding pastDue
+  not-late h i l =
+      ltb-false (dueTime P c (q .mark) i) (node (q .run) i .time .0)
+      (any-not (P .nodes .0) (λ i. ltb (dueTime P c (q .mark) i) (node (q .run) i .time .0)) h i l)
+
   -- which step is next, and why
   pub next-move : OnTime P c q → Move P c q (nextStep P c q)
   unfolding nextStep
@@ -155,3 +162,6 @@ module _ (P : Plan) (c : Parts) (o : Sound P) (q : Place) where
       kind (Delay d) m = record { some = m .some; none-about = m .quiet; within = λ i l. omega (arith, m .within i l, due-high P c o (q .mark) i) }
       kind (TickOf i) m = record { below = m .below; ripe = omega (arith, m .due, due-low P c o (q .mark) (i .0)) }
       kind (SendOf i) m = record { below = m .below; about = m .about }
+
+  pub next-legal : inRange P (q .run) ≡ true → outOfStep P (q .run) ≡ false → pastDue P c q ≡ false → stepNumber P (q .run) (nextStep P c q) ≡ 0
+  next-legal r e h = step-legal P (q .run) (nextStep P c q) (move-legal (nextStep P c q) r e (next-move (not-late h)))

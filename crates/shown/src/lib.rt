@@ -5,10 +5,10 @@ mod players;
 
 pub use players::parts_tested;
 ghost use mathlib.Core.Path.{_≡_};
-ghost use mathlib.Core.Bool.{true};
+ghost use mathlib.Core.Bool.{true, false};
 ghost use Prim.Native.Nat.{_<_};
-ghost use Rattle.plan.specs.Tested.{planNumber};
-ghost use Rattle.run.specs.State.{inRange};
+ghost use Rattle.plan.specs.Tested.{planNumber, Sound};
+ghost use Rattle.run.specs.State.{inRange, outOfStep};
 ghost use Rattle.shown.specs.Shown.{freshPlace, stays, givenBy, givenOf};
 use choosing::mark_after;
 use choosing::next_step;
@@ -22,12 +22,12 @@ use plan::Slot;
 use plan::plan_number;
 use rules::Outcome;
 use rules::verdict_tested;
-use run::Answer;
 use run::Run;
 use run::Step;
 use run::fresh;
 use run::in_range;
-use steps::step_in_range;
+use run::is_out_of_step;
+use steps::moved;
 
 // Before, in or after the pivot.
 pub enum Mark {
@@ -75,6 +75,12 @@ enum Looked {
     OnTime(Seen),
 }
 
+// A look round the nodes: what it tells, and whether a node was seen sending.
+struct Round {
+    pub looked: Looked,
+    pub sending: bool,
+}
+
 // Where a shown run begins: a fresh run, before the pivot.
 pub fn fresh_place() -> Place
     ensures { λ r. ⌜ r ≡ freshPlace ⌝ }
@@ -96,9 +102,21 @@ fn stays(next: Next, place: Place) -> Given
     }
 }
 
+// Out of step, by whether a node was seen sending.
+fn is_out(plan: Plan, run: Run, sending: bool) -> bool
+    requires { ⌜ Sound plan ⌝ }
+    requires { ⌜ (sending ≡ false → outOfStep plan run ≡ false) ⌝ }
+    ensures { λ r. ⌜ r ≡ outOfStep plan run ⌝ }
+{
+    if sending {
+        return is_out_of_step(plan, run);
+    }
+    false
+}
+
 // The next step of a plan that passed 1 to 9 and fails a rule with these parts, at a place that passed 10.
 // The place after it passes 10 again, so step follows step with no test of either, at a cost that goes by N alone.
-// Out of step is a refusal of the step itself.
+// In step and with no time past due, the step is legal and needs no test of its own.
 pub fn given_tested(plan: Plan, parts: Parts, place: Place) -> Given
     requires { ⌜ planNumber plan ≡ 0 ⌝ }
     requires { ⌜ parts .sender .0 < plan .nodes .0 ⌝ }
@@ -107,20 +125,20 @@ pub fn given_tested(plan: Plan, parts: Parts, place: Place) -> Given
 {
     let run = place.run;
     let mark = place.mark;
-    let looked = look_round(plan, parts, run, mark);
+    let round = look_round(plan, parts, run, mark);
+    let looked = round.looked;
     let Looked::OnTime(seen) = looked else {
         return stays(Next::Finished, place);
     };
-    let step = next_step(plan, parts, run, mark, seen);
-    let stepped = step_in_range(plan, run, step);
-    let answer = stepped.answer;
-    let Answer::Done = answer else {
+    if is_out(plan, run, round.sending) {
         return stays(Next::Finished, place);
-    };
-    let moved = stepped.run;
+    }
+    let step = next_step(plan, parts, run, mark, seen);
+    let turned = mark_after(plan, parts, run, mark, step);
+    let next = moved(plan, run, step);
     let after = Place {
-        run: moved,
-        mark: mark_after(plan, parts, run, mark, step),
+        run: next,
+        mark: turned,
     };
     Given {
         next: Next::Takes(step),

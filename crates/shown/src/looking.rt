@@ -1,11 +1,11 @@
 // One look round the nodes finds every candidate for the next step at once.
 ghost use mathlib.Core.Path.{_≡_};
-ghost use mathlib.Core.Bool.{cond, _&&_};
+ghost use mathlib.Core.Bool.{false, cond, _&&_, _||_};
 ghost use Prim.Native.Nat.{_+_, _<_};
 ghost use Rattle.plan.specs.Sending.{own};
 ghost use Rattle.plan.specs.Tested.{Sound};
 ghost use Rattle.run.specs.declared.Run.{Run as RunOf};
-ghost use Rattle.run.specs.State.{node, isAbout};
+ghost use Rattle.run.specs.State.{node, isAbout, outOfStep};
 ghost use Rattle.run.specs.Moves.{modeAfter};
 ghost use Rattle.shown.specs.Shown.{dueTime, goesFirst, goesSecond};
 ghost use Rattle.shown.specs.declared.Place.{Place as PlaceOf};
@@ -13,6 +13,7 @@ ghost use Rattle.shown.specs.Looking.{seenFrom, lookedOf};
 use crate::Looked;
 use crate::Mark;
 use crate::Parts;
+use crate::Round;
 use crate::Seen;
 use plan::Node;
 use plan::Plan;
@@ -22,6 +23,7 @@ use run::Mode;
 use run::NodeState;
 use run::Run;
 use run::is_about;
+use run::is_sending;
 
 // The time since tick at which node i is due.
 pub fn due_time(plan: Plan, parts: Parts, mark: Mark, i: Node) -> Time
@@ -84,6 +86,15 @@ fn goes_second(parts: Parts, mark: Mark, i: Node) -> bool
     }
 }
 
+fn either(a: bool, b: bool) -> bool
+    ensures { λ r. ⌜ r ≡ (a || b) ⌝ }
+{
+    if a {
+        return true;
+    }
+    b
+}
+
 fn both(a: bool, b: bool) -> bool
     ensures { λ r. ⌜ r ≡ (a && b) ⌝ }
 {
@@ -130,10 +141,11 @@ fn seen_with(
     }
 }
 
-// Every node looked at, the highest first.
-pub fn look_round(plan: Plan, parts: Parts, run: Run, mark: Mark) -> Looked
+// Every node looked at, the highest first. Where nobody was seen sending, the run is not out of step.
+pub fn look_round(plan: Plan, parts: Parts, run: Run, mark: Mark) -> Round
     requires { ⌜ Sound plan ⌝ }
-    ensures { λ r. ⌜ r ≡ lookedOf plan parts (record { run = run; mark = mark }) ⌝ }
+    ensures { λ r. ⌜ r .looked ≡ lookedOf plan parts (record { run = run; mark = mark }) ⌝ }
+    ensures { λ r. ⌜ (r .sending ≡ false → outOfStep plan run ≡ false) ⌝ }
 {
     let nodes = plan.nodes;
     let mut seen = Seen {
@@ -142,6 +154,7 @@ pub fn look_round(plan: Plan, parts: Parts, run: Run, mark: Mark) -> Looked
         second: nodes,
         due: nodes,
     };
+    let mut sending = false;
     let mut i = nodes.0;
     while 0 < i {
         i -= 1;
@@ -149,9 +162,17 @@ pub fn look_round(plan: Plan, parts: Parts, run: Run, mark: Mark) -> Looked
         let state = run.nodes[i as usize];
         let time = due_time(plan, parts, mark, Node(i));
         if time.0 < state.time.0 {
-            return Looked::PastDue;
+            return Round {
+                looked: Looked::PastDue,
+                sending: true,
+            };
         }
+        let mode = state.mode;
+        sending = either(sending, is_sending(mode));
         seen = seen_with(plan, parts, mark, Node(i), slot, state, seen);
     }
-    Looked::OnTime(seen)
+    Round {
+        looked: Looked::OnTime(seen),
+        sending: sending,
+    }
 }

@@ -129,11 +129,11 @@ fn step_number(plan: Plan, run: Run, step: Step) -> u8
     }
 }
 
-// The run after a legal step.
-fn moved(plan: Plan, run: Run, step: Step) -> Run
+// The run after a legal step; it passes 10 again.
+pub fn moved(plan: Plan, run: Run, step: Step) -> Run
     requires { ⌜ Sound plan ⌝ }
     requires { ⌜ stepNumber plan run step ≡ 0 ⌝ }
-    ensures { λ r. ⌜ r ≡ moved plan run step ⌝ }
+    ensures { λ r. ⌜ (r ≡ moved plan run step) × (inRange plan r ≡ true) ⌝ }
 {
     match step {
         Step::Delay(d) => delayed(plan, run, d),

@@ -1,40 +1,44 @@
-use mathlib.Core.Path.{_≡_, refl, sym, ap, _∙_}
+use mathlib.Core.Path.{_≡_, refl, _∙_}
 use mathlib.Core.Bool.{true}
-use native.Mathlib.Omega.{arith}
-use Prim.Native.Nat.{suc}
 use lib.ListN.{length}
-use Rattle.judging.proofs.Giving.{sender-known, given-whole}
-use Rattle.shown.proofs.Left.{stepsLeft, Within, within-fresh, left-falls}
-use Rattle.shown.specs.Shown.{freshPlace}
-use Rattle.shown.specs.declared.Given.{Given}
-use Rattle.run.proofs.Ranges.{fresh-range}
-use Rattle.run.specs.State.{inRange}
 use Rattle.plan.proofs.Sound.{sound}
+use Rattle.run.specs.State.{inRange}
+use Rattle.run.proofs.Ranges.{fresh-range}
+use Rattle.shown.specs.Shown.{freshPlace, givenOf}
+use Rattle.shown.proofs.Left.{within-fresh}
+use Rattle.judging.proofs.Giving.{sender-known, given-whole, toGive, Giving, goes-within, gives-less}
 use borrow.Author.Needs.{needs}
 use Rattle.judging.proofs.show.Statement.{statement}
 use Rattle.judging.proofs.show.Tie as tie
 
 abbrev Inv-loop : tie.InvT-loop
-Inv-loop plan parts out₀ from place₀ waiting₀ out place waiting = (inRange plan (place .run) ≡ true) × (Within plan place) × (length out ≡ length out₀)
+Inv-loop plan parts out₀ from given₀ waiting₀ out given waiting = (inRange plan (given .place .run) ≡ true) × Giving plan given × (length out ≡ length out₀)
 
 abbrev μ-loop : tie.MeasureT-loop
-μ-loop plan parts out₀ from place₀ waiting₀ out place waiting = stepsLeft plan place
+μ-loop plan parts out₀ from given₀ waiting₀ out given waiting = toGive plan given
 
 fresh-place-requires : tie.Need-fresh-place-requires Inv-loop μ-loop
 fresh-place-requires c κs = search needs
 
-loop-holds : tie.Need-loop-holds Inv-loop μ-loop
+fresh-in-range : (c : tie.After-fresh-place Inv-loop μ-loop) → inRange (c .before .before .args .plan) (c .fresh-place .result .run) ≡ true
 unfolding freshPlace
-loop-holds c =
-    let b = c .before .before in
-    let P = b .args .plan in
-    let plain = b .pre .plain in
-    rw (c .fresh-place .ensures) (fresh-range P (sound P plain), within-fresh P (b .pre .rule) plain (b .pre .fails), refl)
+fresh-in-range c = let b = c .before .before in rw (c .fresh-place .ensures) (fresh-range (b .args .plan) (sound (b .args .plan) (b .pre .plain)))
 
 given-tested-requires : tie.Need-given-tested-requires Inv-loop μ-loop
-given-tested-requires c κs =
+given-tested-requires c κs = let b = c .before .before in (b .pre .plain, (sender-known (b .pre), fresh-in-range c))
+
+loop-holds : tie.Need-loop-holds Inv-loop μ-loop
+loop-holds c =
     let b = c .before .before .before in
-    (b .pre .plain, (sender-known (b .pre), c .loop .inv .0))
+    let fresh = c .before .fresh-place in (
+      c .given-tested .ensures .1,
+      record {
+        from = fresh .result;
+        within = rw (fresh .ensures) (within-fresh (b .args .plan) (b .pre .rule) (b .pre .plain) (b .pre .fails));
+        given = c .given-tested .ensures .0 ∙ given-whole (b .pre) (fresh .result) (fresh-in-range (c .before));
+      },
+      refl,
+    )
 
 enum-known-next : tie.Need-enum-known-next Inv-loop μ-loop
 enum-known-next c = search needs
@@ -42,26 +46,33 @@ enum-known-next c = search needs
 put-step-requires : tie.Need-put-step-requires Inv-loop μ-loop
 put-step-requires c κs = search needs
 
-fewer : (c : tie.After-after Inv-loop μ-loop) → stepsLeft (c .before .before .before .before .before .before .before .before .before .before .before .before .args .plan) (c .before .before .before .before .before .before .before .before .before .loop .place)
-    ≡ suc (stepsLeft (c .before .before .before .before .before .before .before .before .before .before .before .before .args .plan) (c .before .before .before .before .before .before .before .before .given-tested .result .place))
-fewer c =
-    let n = c .before .before .before .before .before .before in
-    let b = n .before .before .before .before .before .before in
-    let l = n .before .before .before .loop in
-    let given = n .before .before .given-tested .ensures .0 ∙ given-whole (b .pre) (l .place) (l .inv .0) in
-    rw given (left-falls (b .args .plan) (l .place) _ (l .inv .1) (ap (λ (g : Given). g .next) (sym given) ∙ n .next .given .1))
+given-tested-requires-2 : tie.Need-given-tested-requires-2 Inv-loop μ-loop
+given-tested-requires-2 c κs =
+    let b = c .before .before .before .before .before .before .before .before .before .before .before .before in
+    (b .pre .plain, (sender-known (b .pre), c .before .before .before .before .before .before .before .before .loop .inv .0))
+
+-- the next is what the definition gives where the last one led
+next-given : (c : tie.After-given-tested2 Inv-loop μ-loop) → c .given-tested2 .result ≡ givenOf (c .before .before .before .before .before .before .before .before .before .before .before .before .before .args .plan) (c .before .before .before .before .before .before .before .before .before .loop .given .place)
+next-given c =
+    let b = c .before .before .before .before .before .before .before .before .before .before .before .before .before in
+    let l = c .before .before .before .before .before .before .before .before .before .loop in
+    c .given-tested2 .ensures .0 ∙ given-whole (b .pre) (l .given .place) (l .inv .0)
 
 loop-less : tie.Need-loop-less Inv-loop μ-loop
-loop-less c = omega (arith, fewer c)
+loop-less c =
+    let l = c .before .before .before .before .before .before .before .before .before .loop in
+    gives-less (c .before .before .before .before .before .before .before .before .before .before .before .before .before .args .plan) (l .given) _ (l .inv .1) (c .before .before .before .before .before .before .before .next .given .1) (c .given-tested2 .result) (next-given c)
 
 loop-again : tie.Need-loop-again Inv-loop μ-loop
 loop-again c =
-    let n = c .before .before .before .before .before .before in
-    let l = n .before .before .before .loop in
-    (n .before .before .given-tested .ensures .1, omega (arith, fewer c, l .inv .1), c .before .before .out .given ∙ l .inv .2)
+    let l = c .before .before .before .before .before .before .before .before .before .loop in (
+      c .given-tested2 .ensures .1,
+      record { from = l .given .place; within = goes-within (c .before .before .before .before .before .before .before .before .before .before .before .before .before .args .plan) (l .given) _ (l .inv .1) (c .before .before .before .before .before .before .before .next .given .1); given = next-given c },
+      c .before .before .before .out .given ∙ l .inv .2,
+    )
 
 apart-tested-requires : tie.Need-apart-tested-requires Inv-loop μ-loop
-apart-tested-requires c κs = let b = c .before .before .before .before .before .before .before in sound (b .args .plan) (b .pre .plain)
+apart-tested-requires c κs = let b = c .before .before .before .before .before .before .before .before in sound (b .args .plan) (b .pre .plain)
 
 put-apart-requires : tie.Need-put-apart-requires Inv-loop μ-loop
 put-apart-requires c κs = search needs
@@ -82,10 +93,11 @@ show-spec =
     Inv-loop
     μ-loop
     fresh-place-requires
-    loop-holds
     given-tested-requires
+    loop-holds
     enum-known-next
     put-step-requires
+    given-tested-requires-2
     loop-less
     loop-again
     apart-tested-requires

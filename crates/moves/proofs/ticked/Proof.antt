@@ -20,10 +20,10 @@ element-copy-out-node : tie.Need-element-copy-out-node
 element-copy-out-node c = search needs
 
 node-ticked-requires : tie.Need-node-ticked-requires
-node-ticked-requires c κs = (c .before .before .before .pre .0, node-within (c .before .before .before .args .t1) _ (range-node (c .before .before .before .args .t1) (c .before .before .before .args .t2) (c .before .before .before .pre .1 .0) (c .before .before .before .args .i .0) (c .before .before .before .pre .1 .1)))
+node-ticked-requires c κs = (c .before .before .before .pre .0, node-within (c .before .before .before .args .t1) _ (range-node (c .before .before .before .args .t1) (c .before .before .before .args .run) (c .before .before .before .pre .1 .0) (c .before .before .before .args .i .0) (c .before .before .before .pre .1 .1)))
 
-mul-t10 : tie.Need-mul-t10
-mul-t10 c = search needs
+mul-t9 : tie.Need-mul-t9
+mul-t9 c = search needs
 
 element-set-from-next : tie.Need-element-set-from-next
 element-set-from-next c = search needs
@@ -41,6 +41,6 @@ ticked-spec =
     mul-node
     element-copy-out-node
     node-ticked-requires
-    mul-t10
+    mul-t9
     element-set-from-next
     returns)

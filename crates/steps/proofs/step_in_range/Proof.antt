@@ -1,12 +1,8 @@
--- Refused, the run stays as it was; done, the step was legal and so keeps the range.
-use mathlib.Core.Path.{_≡_, sym, _∙_}
-use native.Mathlib.Omega.{arith}
+-- Refused, the run stays as it was; done, the step was legal.
+use mathlib.Core.Path.{sym, _∙_}
 use borrow.Author.Tests.{eq-eqb, ne-eqb}
 use borrow.Author.Needs.{needs}
-use lib.ListN.{length, length-map}
 use Rattle.run.specs.Steps.{stepNumber, stepTested}
-use Rattle.run.proofs.Ranges.{step-keeps-range}
-use Rattle.run.proofs.Legal.{legal-step}
 use Rattle.steps.proofs.step_in_range.Statement.{statement}
 use Rattle.steps.proofs.step_in_range.Tie as tie
 
@@ -31,10 +27,7 @@ unfolding stepTested
 returns-2 c =
     let b = c .before .before .before in
     let number = sym (c .before .before .step-number .ensures) ∙ c .before .if1 .left in
-    let room : length (b .args .run .nodes) ≡ 32 = simp length-map at (b .good .1 .0 .1 .1 .0 .1 .0 .1) in (
-      rw (eq-eqb (stepNumber (b .args .plan) (b .args .run) (b .args .step)) 0 number, c .moved .ensures),
-      rw (c .moved .ensures) (step-keeps-range (b .args .plan) (b .pre .0) (b .args .run) (b .args .step) (omega arith) (legal-step (b .args .plan) (b .args .run) (b .args .step) number)),
-    )
+    (rw (eq-eqb (stepNumber (b .args .plan) (b .args .run) (b .args .step)) 0 number, c .moved .ensures .0), c .moved .ensures .1)
 
 pub step-in-range-spec : {M : Type 1} → statement M
 step-in-range-spec =
