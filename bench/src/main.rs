@@ -6,6 +6,7 @@ mod compare;
 mod generator;
 #[cfg(feature = "linked")]
 mod linked;
+mod measure;
 mod model;
 mod programs;
 mod selftest;
@@ -97,6 +98,10 @@ fn main() -> ExitCode {
         (Some("compare"), Some(seed), Some(count)) => compare(seed, count),
         (Some("programs"), Some(seed), Some(count)) => programs(seed, count.min(100_000)),
         (Some("selftest"), Some(seed), _) => selftest::run(library(), seed),
+        (Some("bench"), Some(seed), _) => {
+            measure::run(library(), seed);
+            Ok(())
+        }
         _ => Err("usage: run.sh compare [seed] [count] | programs [seed] [count] | selftest [seed] | bench".to_string()),
     };
     match done {
