@@ -20,8 +20,6 @@ pub struct Plan {
     pub min: u32,
     pub max: u32,
     pub slots: [u16; PLACES],
-    /// The first N of `slots`, smallest first: neighbours here are neighbours in the frame.
-    in_order: [u16; PLACES],
 }
 
 /// Both sides of each rule, and M.
@@ -66,7 +64,7 @@ impl Plan {
         for (slot, bytes) in slots.iter_mut().zip(file[21..].chunks_exact(2)) {
             *slot = u16::from_be_bytes([bytes[0], bytes[1]]);
         }
-        Plan {
+        let plan = Plan {
             nodes: file[5] as usize,
             frame: word(6),
             active: word(8),
@@ -76,13 +74,12 @@ impl Plan {
             min: long(13),
             max: long(17),
             slots,
-            in_order: slots,
-        }
-        .tested()
+        };
+        plan.tested().map(|()| plan)
     }
 
     /// Refusals 2 to 9.
-    fn tested(mut self) -> Result<Plan, u8> {
+    fn tested(&self) -> Result<(), u8> {
         if !(3..=MAX_FRAME).contains(&self.frame) {
             return Err(2);
         }
@@ -98,25 +95,36 @@ impl Plan {
         if self.min == 0 || self.min > self.max || self.max > MAX_TIME {
             return Err(6);
         }
-        let order = &mut self.in_order[..self.nodes];
-        order.sort_unstable();
-        if order[order.len() - 1] >= self.active {
+        self.slots_tested()
+    }
+
+    /// Refusals 7 to 9.
+    fn slots_tested(&self) -> Result<(), u8> {
+        let slots = &self.slots[..self.nodes];
+        if slots.iter().any(|&slot| slot >= self.active) {
             return Err(7);
         }
-        if order.windows(2).any(|pair| pair[0] == pair[1]) {
-            return Err(8);
+        let mut taken = [0u64; MAX_FRAME as usize / 64];
+        for &slot in slots {
+            let (word, bit) = (&mut taken[slot as usize / 64], 1 << (slot % 64));
+            if *word & bit != 0 {
+                return Err(8);
+            }
+            *word |= bit;
         }
-        if order[0] != 0 {
+        if taken[0] & 1 == 0 {
             return Err(9);
         }
-        Ok(self)
+        Ok(())
     }
 
     // Gap and rules
 
     /// The widest stretch between a sending slot and its predecessor; of several, the one that begins first.
     fn widest(&self) -> Stretch {
-        let order = &self.in_order[..self.nodes];
+        let mut slots = self.slots;
+        let order = &mut slots[..self.nodes];
+        order.sort_unstable();
         let (first, last) = (order[0], order[order.len() - 1]);
         let round = Stretch { gap: self.frame - last + first, from: last, to: first };
         let mut widest = Stretch { gap: 0, from: 0, to: 0 };
