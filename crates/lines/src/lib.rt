@@ -261,7 +261,8 @@ pub fn write_refused(out: &mut [u8], at: usize, number: u8) -> Wrote
     Wrote::NoRoom
 }
 
-fn is_letter(byte: u8) -> bool
+// One of the letters of a step.
+pub fn is_letter(byte: u8) -> bool
     ensures { λ r. ⌜ r ≡ isLetter byte ⌝ }
 {
     if byte == b'D' {
@@ -331,7 +332,8 @@ pub fn reading_byte(reading: Reading, byte: u8) -> Reading
     }
 }
 
-fn step_by(letter: u8, number: u32) -> Step
+// The step that a letter and a number ask for.
+pub fn step_by(letter: u8, number: u32) -> Step
     ensures { λ r. ⌜ r ≡ stepBy letter number ⌝ }
 {
     if letter == b'D' {

@@ -1,0 +1,3 @@
+-- What the proofs of several calls use.
+pub mod Calling
+pub mod Writing

@@ -1,0 +1,116 @@
+use Rattle.weftpillar.proofs.Calling.{refused-here, refused-next, none-given, refused-leaves, done-leaves}
+use Rattle.weftpillar.specs.Calls.{runFor, stepRows}
+use Rattle.weftpillar.specs.Answers.{answerNumber, leaves}
+use Rattle.run_bytes.specs.RunBytes.{runBytes}
+use Rattle.lines.specs.In.{stepBy}
+use borrow.Author.Tests.{not-true, not-false}
+use mathlib.Core.List.{[]}
+use Rattle.run.specs.Steps.{stepTested}
+use Rattle.run.specs.declared.Stepped.{Stepped}
+use Rattle.run.specs.declared.Step.{Step}
+use Rattle.run.specs.declared.Run.{Run}
+use Rattle.plan.specs.Refusals.{line-wrong, run-outside}
+use Rattle.laws.proofs.Rows.{first-here, first-next}
+use Rattle.laws.specs.Row.{given}
+use Rattle.plan.proofs.Sound.{sound}
+use mathlib.Core.Bool.{true, false, not}
+use denote.Ref.{now}
+use native.Mathlib.Omega.{arith}
+use mathlib.Core.Path.{_≡_, refl, sym, ap, _∙_}
+use borrow.Author.Needs.{needs}
+use Rattle.weftpillar.proofs.runs.step_on.Statement.{statement}
+use Rattle.weftpillar.proofs.runs.step_on.Tie as tie
+
+is-letter-requires : tie.Need-is-letter-requires
+is-letter-requires c κs = search needs
+
+returns : tie.Need-returns
+unfolding stepRows
+returns c =
+    let l = sym (c .before .is-letter .ensures) ∙ not-true (c .before .is-letter .result) (c .if1 .taken) in
+    (first-here (given line-wrong _) _ (ap not l), refused-leaves 19 19 _ _ refl (λ z. omega arith))
+
+cast-nodes : tie.Need-cast-nodes
+cast-nodes c = search needs
+
+numbers-wrong-requires : tie.Need-numbers-wrong-requires
+numbers-wrong-requires c κs = let s = sound _ (c .before .before .before .before .before .pre .0) in (s .nodes-high, omega arith)
+
+same-length : tie.Need-same-length
+same-length c = search needs
+
+returns-2 : tie.Need-returns-2
+unfolding stepRows
+returns-2 c =
+    let l = sym (c .before .before .before .before .before .is-letter .ensures) ∙ not-false (c .before .before .before .before .before .is-letter .result) (c .before .before .before .before .if1 .left) in
+    let w = sym (c .before .numbers-wrong .ensures) ∙ c .if2 .taken in
+    (first-here (given run-outside _) _ w ∙ sym (first-next (given line-wrong _) _ (ap not l)), refused-leaves 10 10 _ _ refl (λ z. omega arith))
+
+read-run-requires : tie.Need-read-run-requires
+read-run-requires c κs = let s = sound _ (c .before .before .before .before .before .before .before .before .pre .0) in (s .nodes-high, omega arith)
+
+step-by-requires : tie.Need-step-by-requires
+step-by-requires c κs = search needs
+
+step-tested-requires : tie.Need-step-tested-requires
+step-tested-requires c κs = sound _ (c .before .before .before .before .before .before .before .before .before .before .pre .0)
+
+answer-number-requires : tie.Need-answer-number-requires
+answer-number-requires c κs = search needs
+
+same-length-2 : tie.Need-same-length-2
+same-length-2 c = search needs
+
+returns-3 : tie.Need-returns-3
+unfolding stepRows
+returns-3 c =
+    let a = c .before .before .before .before .before .before .before .before .before .before .before .before .before .args in
+    let l = sym (c .before .before .before .before .before .before .before .before .before .before .before .is-letter .ensures) ∙ not-false (c .before .before .before .before .before .before .before .before .before .before .before .is-letter .result) (c .before .before .before .before .before .before .before .before .before .before .if1 .left) in
+    let w = sym (c .before .before .before .before .before .before .before .numbers-wrong .ensures) ∙ c .before .before .before .before .before .before .if2 .left in
+    let d : c .before .before .step-tested .result ≡ stepTested (a .plan) (runFor (a .plan) (now (a .run))) (stepBy (a .letter) (a .number)) =
+    c .before .before .step-tested .ensures
+    ∙ ap (λ (r : Run). stepTested (a .plan) r (c .before .before .before .step-by .result)) (c .before .before .before .before .read-run .ensures)
+    ∙ ap (λ (s : Step). stepTested (a .plan) (runFor (a .plan) (now (a .run))) s) (c .before .before .before .step-by .ensures) in
+    let m = c .before .answer-number .ensures ∙ ap (λ (x : Stepped). answerNumber (x .answer)) d in
+    (refused-here _ _ [] m (c .if3 .taken) ∙ sym (first-next (given line-wrong _) _ (ap not l) ∙ first-next (given run-outside _) _ w), refused-leaves _ _ _ _ refl (c .if3 .taken))
+
+write-run-requires : tie.Need-write-run-requires
+write-run-requires c κs = let s = sound _ (c .before .before .before .before .before .before .before .before .before .before .before .before .before .before .before .pre .0) in (s .nodes-high, omega arith)
+
+same-length-3 : tie.Need-same-length-3
+same-length-3 c = search needs
+
+returns-4 : tie.Need-returns-4
+unfolding stepRows
+returns-4 c =
+    let a = c .before .before .before .before .before .before .before .before .before .before .before .before .before .before .before .before .before .before .args in
+    let l = sym (c .before .before .before .before .before .before .before .before .before .before .before .before .before .before .before .before .is-letter .ensures) ∙ not-false (c .before .before .before .before .before .before .before .before .before .before .before .before .before .before .before .before .is-letter .result) (c .before .before .before .before .before .before .before .before .before .before .before .before .before .before .before .if1 .left) in
+    let w = sym (c .before .before .before .before .before .before .before .before .before .before .before .before .numbers-wrong .ensures) ∙ c .before .before .before .before .before .before .before .before .before .before .before .if2 .left in
+    let d : c .before .before .before .before .before .before .before .step-tested .result ≡ stepTested (a .plan) (runFor (a .plan) (now (a .run))) (stepBy (a .letter) (a .number)) =
+    c .before .before .before .before .before .before .before .step-tested .ensures
+    ∙ ap (λ (r : Run). stepTested (a .plan) r (c .before .before .before .before .before .before .before .before .step-by .result)) (c .before .before .before .before .before .before .before .before .before .read-run .ensures)
+    ∙ ap (λ (s : Step). stepTested (a .plan) (runFor (a .plan) (now (a .run))) s) (c .before .before .before .before .before .before .before .before .step-by .ensures) in
+    let m = c .before .before .before .before .before .before .answer-number .ensures ∙ ap (λ (x : Stepped). answerNumber (x .answer)) d in (
+      sym (first-next (given line-wrong _) _ (ap not l) ∙ first-next (given run-outside _) _ w ∙ refused-next _ _ [] m (c .before .before .before .before .before .if3 .left) ∙ none-given),
+      done-leaves 0 _ _ _ refl (c .before .before .write-run .ensures ∙ ap (λ (x : Stepped). runBytes (a .plan .nodes .0) (x .run) (now (a .run))) d),
+    )
+
+pub step-on-spec : {M : Type 1} → statement M
+step-on-spec =
+    tie.close
+    (tie.spec
+    is-letter-requires
+    returns
+    cast-nodes
+    numbers-wrong-requires
+    same-length
+    returns-2
+    read-run-requires
+    step-by-requires
+    step-tested-requires
+    answer-number-requires
+    same-length-2
+    returns-3
+    write-run-requires
+    same-length-3
+    returns-4)

@@ -1,0 +1,127 @@
+// The library for C and Rust: calls on lent bytes, each total, none keeping anything from one call to the next.
+mod answers;
+mod forms;
+mod runs;
+mod taken;
+mod verdicts;
+
+ghost use mathlib.Core.Path.{_≡_};
+ghost use Rattle.weftpillar.specs.Calls.{
+  judgeAnswer,
+  judgeVerdict,
+  freshAnswer,
+  freshBytes,
+  stepAnswer,
+  stepRun,
+  apartAnswer,
+  apartLeaves,
+  reckonAnswer,
+  reckonTicks,
+  lineAnswer,
+  lineStep,
+};
+use answers::line_number;
+use forms::write_line;
+use lines::read_line;
+use run::fresh;
+use run_bytes::write_run;
+use runs::apart_on;
+use runs::reckon_on;
+use runs::step_on;
+use taken::ANOTHER_LENGTH;
+use taken::lengths_differ;
+use taken::taken_from;
+use verdicts::verdict_by;
+use verdicts::write_verdict;
+
+// A plan file judged: the verdict, 51 bytes.
+#[no_mangle]
+pub extern "C" fn weftpillar_judge(plan: &[u8], verdict: &mut [u8]) -> u8
+    ensures { λ r. ⌜ r ≡ judgeAnswer (now (plan .entry)) (now (verdict .entry)) ⌝ }
+    ensures { λ _. ⌜ now (verdict .exit) ≡ judgeVerdict (now (plan .entry)) (now (verdict .entry)) ⌝ }
+{
+    if verdict.len() != 51 {
+        return ANOTHER_LENGTH;
+    }
+    let taken = taken_from(plan);
+    if taken.number != 0 {
+        return taken.number;
+    }
+    write_verdict(verdict, verdict_by(taken.plan));
+    0
+}
+
+// A fresh run, 291 bytes.
+#[no_mangle]
+pub extern "C" fn weftpillar_fresh(run: &mut [u8]) -> u8
+    ensures { λ r. ⌜ r ≡ freshAnswer (now (run .entry)) ⌝ }
+    ensures { λ _. ⌜ now (run .exit) ≡ freshBytes (now (run .entry)) ⌝ }
+{
+    if run.len() != 291 {
+        return ANOTHER_LENGTH;
+    }
+    write_run(run, 32, fresh());
+    0
+}
+
+// One step, by its letter and number: the run moved on in place, or refused and as it was.
+#[no_mangle]
+pub extern "C" fn weftpillar_step(plan: &[u8], run: &mut [u8], letter: u8, number: u32) -> u8
+    ensures { λ r. ⌜ r ≡ stepAnswer (now (plan .entry)) (now (run .entry)) letter number ⌝ }
+    ensures { λ _. ⌜ now (run .exit) ≡ stepRun (now (plan .entry)) (now (run .entry)) letter number ⌝ }
+{
+    if run.len() != 291 {
+        return ANOTHER_LENGTH;
+    }
+    let taken = taken_from(plan);
+    if taken.number != 0 {
+        return taken.number;
+    }
+    step_on(taken.plan, run, letter, number)
+}
+
+// Whether the run is out of step, and by which nodes: 9 bytes.
+#[no_mangle]
+pub extern "C" fn weftpillar_out_of_step(plan: &[u8], run: &[u8], answer: &mut [u8]) -> u8
+    ensures { λ r. ⌜ r ≡ apartAnswer (now (plan .entry)) (now (run .entry)) (now (answer .entry)) ⌝ }
+    ensures { λ _. ⌜ now (answer .exit) ≡ apartLeaves (now (plan .entry)) (now (run .entry)) (now (answer .entry)) ⌝ }
+{
+    if lengths_differ(run.len(), 291, answer.len(), 9) {
+        return ANOTHER_LENGTH;
+    }
+    let taken = taken_from(plan);
+    if taken.number != 0 {
+        return taken.number;
+    }
+    apart_on(taken.plan, run, answer)
+}
+
+// A node's reckoning of its ticks: 4 bytes.
+#[no_mangle]
+pub extern "C" fn weftpillar_reckon(plan: &[u8], run: &[u8], node: u32, ticks: &mut [u8]) -> u8
+    ensures { λ r. ⌜ r ≡ reckonAnswer (now (plan .entry)) (now (run .entry)) node (now (ticks .entry)) ⌝ }
+    ensures { λ _. ⌜ now (ticks .exit) ≡ reckonTicks (now (plan .entry)) (now (run .entry)) node (now (ticks .entry)) ⌝ }
+{
+    if lengths_differ(run.len(), 291, ticks.len(), 4) {
+        return ANOTHER_LENGTH;
+    }
+    let taken = taken_from(plan);
+    if taken.number != 0 {
+        return taken.number;
+    }
+    reckon_on(taken.plan, run, node, ticks)
+}
+
+// A step line, its newline included, to a step: 5 bytes.
+#[no_mangle]
+pub extern "C" fn weftpillar_line(line: &[u8], step: &mut [u8]) -> u8
+    ensures { λ r. ⌜ r ≡ lineAnswer (now (line .entry)) (now (step .entry)) ⌝ }
+    ensures { λ _. ⌜ now (step .exit) ≡ lineStep (now (line .entry)) (now (step .entry)) ⌝ }
+{
+    if step.len() != 5 {
+        return ANOTHER_LENGTH;
+    }
+    let asked = read_line(line);
+    write_line(step, asked);
+    line_number(asked)
+}

@@ -1,0 +1,97 @@
+// Calls on a run in bytes, of a plan that passed 1 to 9, with every buffer of the right length.
+ghost use mathlib.Core.Path.{_≡_};
+ghost use lib.ListN.{length};
+ghost use Rattle.laws.specs.Row.{firstOf};
+ghost use Rattle.plan.specs.Tested.{planNumber};
+ghost use Rattle.run.specs.State.{apartOf};
+ghost use Rattle.weftpillar.specs.Answers.{leaves};
+ghost use Rattle.weftpillar.specs.Forms.{apartBytes};
+ghost use Rattle.weftpillar.specs.Calls.{runFor, runOutside, stepRows, stepWrites, apartRows, reckonRows, reckonWrites};
+use crate::answers::answer_number;
+use crate::answers::reckoned_number;
+use crate::forms::write_apart;
+use crate::forms::write_ticks;
+use lines::is_letter;
+use lines::step_by;
+use plan::LINE_WRONG;
+use plan::Node;
+use plan::Plan;
+use plan::RUN_OUTSIDE;
+use reckoning::reckon_tested;
+use run::apart_tested;
+use run::in_range;
+use run_bytes::numbers_wrong;
+use run_bytes::read_run;
+use run_bytes::write_run;
+use steps::step_tested;
+
+// Refusal 10: the bytes spell no run, or one with a number outside its range.
+pub fn run_outside(plan: Plan, run: &[u8]) -> bool
+    requires { ⌜ planNumber plan ≡ 0 ⌝ }
+    requires { ⌜ length (now run) ≡ 291 ⌝ }
+    ensures { λ r. ⌜ r ≡ runOutside plan (now (run .entry)) ⌝ }
+{
+    let nodes = plan.nodes.0 as usize;
+    if numbers_wrong(run, nodes) {
+        return true;
+    }
+    let state = read_run(run, nodes);
+    !in_range(plan, state)
+}
+
+pub fn step_on(plan: Plan, run: &mut [u8], letter: u8, number: u32) -> u8
+    requires { ⌜ planNumber plan ≡ 0 ⌝ }
+    requires { ⌜ length (now run) ≡ 291 ⌝ }
+    ensures { λ r. ⌜ r ≡ firstOf (stepRows plan (now (run .entry)) letter number) ⌝ }
+    ensures { λ r. ⌜ now (run .exit) ≡ leaves r (stepWrites plan (now (run .entry)) letter number) (now (run .entry)) ⌝ }
+{
+    if !is_letter(letter) {
+        return LINE_WRONG;
+    }
+    let nodes = plan.nodes.0 as usize;
+    if numbers_wrong(run, nodes) {
+        return RUN_OUTSIDE;
+    }
+    let before = read_run(run, nodes);
+    let done = step_tested(plan, before, step_by(letter, number));
+    let answer = done.answer;
+    let refusal = answer_number(answer);
+    if refusal != 0 {
+        return refusal;
+    }
+    let after = done.run;
+    write_run(run, nodes, after);
+    0
+}
+
+pub fn apart_on(plan: Plan, run: &[u8], answer: &mut [u8]) -> u8
+    requires { ⌜ planNumber plan ≡ 0 ⌝ }
+    requires { ⌜ length (now run) ≡ 291 ⌝ }
+    requires { ⌜ length (now answer) ≡ 9 ⌝ }
+    ensures { λ r. ⌜ r ≡ firstOf (apartRows plan (now (run .entry))) ⌝ }
+    ensures { λ r. ⌜ now (answer .exit) ≡ leaves r (apartBytes (apartOf plan (runFor plan (now (run .entry)))) (now (answer .entry))) (now (answer .entry)) ⌝ }
+{
+    if run_outside(plan, run) {
+        return RUN_OUTSIDE;
+    }
+    let state = read_run(run, plan.nodes.0 as usize);
+    write_apart(answer, apart_tested(plan, state));
+    0
+}
+
+pub fn reckon_on(plan: Plan, run: &[u8], node: u32, ticks: &mut [u8]) -> u8
+    requires { ⌜ planNumber plan ≡ 0 ⌝ }
+    requires { ⌜ length (now run) ≡ 291 ⌝ }
+    requires { ⌜ length (now ticks) ≡ 4 ⌝ }
+    ensures { λ r. ⌜ r ≡ firstOf (reckonRows plan (now (run .entry)) node) ⌝ }
+    ensures { λ r. ⌜ now (ticks .exit) ≡ leaves r (reckonWrites plan (now (run .entry)) node (now (ticks .entry))) (now (ticks .entry)) ⌝ }
+{
+    let nodes = plan.nodes.0 as usize;
+    if numbers_wrong(run, nodes) {
+        return RUN_OUTSIDE;
+    }
+    let state = read_run(run, nodes);
+    let reckoned = reckon_tested(plan, state, Node(node));
+    write_ticks(ticks, reckoned);
+    reckoned_number(reckoned)
+}
