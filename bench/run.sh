@@ -1,5 +1,5 @@
 #!/bin/sh
-# bench/run.sh compare [seed] [count] | programs [seed] [count] | selftest [seed] | bench [seed]
+# bench/run.sh compare [seed] [count] [kind] | programs [seed] [count] | selftest [seed] | bench [seed] [section]
 # Builds what is missing and runs it: the library and the programs by rt, the rest by cargo.
 here=$(cd "$(dirname "$0")" && pwd) || exit 2
 home=$(dirname "$here")

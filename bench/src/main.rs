@@ -55,11 +55,12 @@ fn print_answers(comparison: &Comparison) {
     println!("{total} inputs compared, no difference; answers that never came: {missing:?}");
 }
 
-fn compare(seed: u64, count: u64) -> Result<(), String> {
+/// All kinds of input, or the one that is named.
+fn compare(seed: u64, count: u64, only: Option<&String>) -> Result<(), String> {
     let library = library().ok_or("built without the library: only selftest and programs can be run")?;
     let started = Instant::now();
     let mut comparison = Comparison::new(library, &bytes::Model);
-    for kind in KINDS {
+    for kind in KINDS.into_iter().filter(|kind| only.is_none_or(|name| *name == format!("{kind:?}"))) {
         comparison.kind(kind, seed, count).map_err(|difference| {
             let (kind, group) = (difference.kind, difference.group);
             format!("a difference in {kind:?}, seed {seed}, group {group} (left the library, right the model)\n{}", difference.text)
@@ -95,14 +96,14 @@ fn main() -> ExitCode {
         (Some("judge-model"), _, _) => judge_model(Shown::ByPlaces),
         (Some("judge-model-by-rounds"), _, _) => judge_model(Shown::ByRounds),
         (Some("stepper-model"), _, _) => stepper_model(words.get(1).map_or("", String::as_str)),
-        (Some("compare"), Some(seed), Some(count)) => compare(seed, count),
+        (Some("compare"), Some(seed), Some(count)) => compare(seed, count, words.get(3)),
         (Some("programs"), Some(seed), Some(count)) => programs(seed, count.min(100_000)),
         (Some("selftest"), Some(seed), _) => selftest::run(library(), seed),
         (Some("bench"), Some(seed), _) => {
-            measure::run(library(), seed);
+            measure::run(library(), seed, words.get(2).map(String::as_str));
             Ok(())
         }
-        _ => Err("usage: run.sh compare [seed] [count] | programs [seed] [count] | selftest [seed] | bench".to_string()),
+        _ => Err("usage: run.sh compare [seed] [count] [kind] | programs [seed] [count] | selftest [seed] | bench [seed] [section]".to_string()),
     };
     match done {
         Ok(()) => ExitCode::SUCCESS,

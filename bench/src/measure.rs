@@ -104,9 +104,8 @@ fn stepped_plans(random: &mut Random, count: usize) -> Vec<(String, Vec<u8>, Vec
 
 fn steps(library: &dyn Calls, random: &mut Random) {
     let count = 20_000;
-    let plans = stepped_plans(random, count);
     heading("steps, one call each (plan and run are tested in each)", "library");
-    for (name, file, steps) in &plans {
+    for (name, file, steps) in &stepped_plans(random, count) {
         let asked: Vec<(u8, u32)> = steps.iter().map(|&step| split(step)).collect();
         let work = |side: &dyn Calls| {
             let mut run = [0; RUN_BYTES];
@@ -116,8 +115,12 @@ fn steps(library: &dyn Calls, random: &mut Random) {
         };
         print_row(name, by_turns(ROUNDS, count as u64, || work(library), || work(&Model)));
     }
+}
+
+fn rows(library: &dyn Calls, random: &mut Random) {
+    let count = 20_000;
     heading("steps in rows of 1000 (plan and run are tested once a row)", "library");
-    for (name, file, steps) in &plans {
+    for (name, file, steps) in &stepped_plans(random, count) {
         let asked: Vec<u8> = steps.iter().flat_map(|&step| step_bytes(step)).collect();
         let work = |side: &dyn Calls| {
             let mut run = [0; RUN_BYTES];
@@ -263,7 +266,7 @@ fn judge_program(random: &mut Random) {
     }
 }
 
-fn process_start() {
+fn process_start(_: &mut Random) {
     let (program, this) = (at_home("target/bin/judge"), this_program());
     let path = work_file("empty");
     fs::write(&path, b"").expect("an empty file");
@@ -273,17 +276,28 @@ fn process_start() {
     print_row("refused 20", times);
 }
 
-pub fn run(library: Option<&dyn Calls>, seed: u64) {
-    let random = &mut Random::new(seed, 0);
+/// Every section, or the one that is named.
+pub fn run(library: Option<&dyn Calls>, seed: u64, only: Option<&str>) {
+    type OfLibrary = fn(&dyn Calls, &mut Random);
+    type OfPrograms = fn(&mut Random);
+    let of_library: [(&str, OfLibrary); 6] = [
+        ("verdicts", verdicts),
+        ("steps", steps),
+        ("rows", rows),
+        ("questions", questions),
+        ("shown", shown_steps),
+        ("lines", lines),
+    ];
+    let of_programs: [(&str, OfPrograms); 3] =
+        [("start", process_start), ("stepper", stepper_program), ("judge", judge_program)];
     println!("best of {ROUNDS} rounds ({PROGRAM_ROUNDS} for programs); ratio above 1: slower than the model");
-    if let Some(library) = library {
-        verdicts(library, random);
-        steps(library, random);
-        questions(library, random);
-        shown_steps(library, random);
-        lines(library, random);
+    let asked = |name: &str| only.is_none_or(|only| only == name);
+    for (_, measure) in of_library.iter().filter(|(name, _)| asked(name)) {
+        if let Some(library) = library {
+            measure(library, &mut Random::new(seed, 0));
+        }
     }
-    process_start();
-    stepper_program(random);
-    judge_program(random);
+    for (_, measure) in of_programs.iter().filter(|(name, _)| asked(name)) {
+        measure(&mut Random::new(seed, 0));
+    }
 }

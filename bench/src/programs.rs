@@ -3,7 +3,7 @@
 use crate::generator::*;
 use crate::model::*;
 use std::fs;
-use std::io::{self, BufRead, BufReader, Read, Write};
+use std::io::{self, Read, Write};
 use std::path::{Path, PathBuf};
 use std::process::{Command, Stdio};
 
@@ -88,16 +88,47 @@ pub fn stepper(file: &[u8], from: impl Read, to: impl Write) -> io::Result<()> {
     out.flush()
 }
 
-fn answer_lines(plan: &Plan, from: impl Read, out: &mut Out<impl Write>) -> io::Result<()> {
-    let mut from = BufReader::with_capacity(BLOCK, from);
-    let mut run = Run::fresh();
-    let mut line = Vec::new();
-    while from.read_until(b'\n', &mut line)? > 0 {
-        put_answer(&mut out.text, read_line(&line).and_then(|step| plan.step_in_range(&mut run, step)));
-        out.flush_full()?;
-        line.clear();
+/// The run, moved on line by line, and the answers to them.
+struct Desk<'a, W: Write> {
+    plan: &'a Plan,
+    run: Run,
+    out: &'a mut Out<W>,
+}
+
+impl<W: Write> Desk<'_, W> {
+    fn answer(&mut self, line: &[u8]) -> io::Result<()> {
+        let step = read_line(line);
+        put_answer(&mut self.out.text, step.and_then(|step| self.plan.step_in_range(&mut self.run, step)));
+        self.out.flush_full()
     }
-    Ok(())
+}
+
+fn answer_lines(plan: &Plan, mut from: impl Read, out: &mut Out<impl Write>) -> io::Result<()> {
+    let mut desk = Desk { plan, run: Run::fresh(), out };
+    let mut block = vec![0; BLOCK];
+    let mut begun = Vec::new();
+    loop {
+        let length = from.read(&mut block)?;
+        if length == 0 {
+            break;
+        }
+        for piece in block[..length].split_inclusive(|&byte| byte == b'\n') {
+            let ends = piece.ends_with(b"\n");
+            if ends && begun.is_empty() {
+                desk.answer(piece)?;
+                continue;
+            }
+            begun.extend_from_slice(piece);
+            if ends {
+                desk.answer(&begun)?;
+                begun.clear();
+            }
+        }
+    }
+    if begun.is_empty() {
+        return Ok(());
+    }
+    desk.answer(&begun)
 }
 
 // The project's programs
