@@ -16,6 +16,8 @@ use Rattle.run.specs.declared.Reckoned.the-variants as reckoned
 use Rattle.lines.specs.declared.Line.{Line}
 use Rattle.lines.specs.declared.Line.the-variants as line
 use Rattle.weftpillar.specs.Answers.{another-length, reckonedNumber, lineNumber, fileNumber, planIn, refusedBy, answered, leaves}
+use Rattle.run.specs.State.{inRange}
+use Rattle.weftpillar.specs.Calls.{runFor, runWrong, runOutside}
 use Rattle.weftpillar.specs.Forms.{ticksBytes, lineBytes}
 
 -- 1 to 9 let a plan through whose file is taken
@@ -98,3 +100,8 @@ pub line-leaves : (x : Line) (before : List ℕ) → lineBytes x before ≡ leav
 unfolding lineBytes leaves
 line-leaves (line.Asks s) before = refl
 line-leaves (line.Refused n) before = same-leaves n before
+
+-- bytes that 10 does not speak against spell a run in range
+pub inside-range : (P : Plan) (bytes : List ℕ) → runOutside P bytes ≡ false → inRange P (runFor P bytes) ≡ true
+unfolding runOutside
+inside-range P bytes h = false-not-true (inRange P (runFor P bytes)) (or-false-right (runWrong P bytes) (not (inRange P (runFor P bytes))) h)

@@ -1,3 +1,4 @@
 -- What the proofs of several calls use.
 pub mod Calling
 pub mod Writing
+pub mod AskedOn

@@ -1,6 +1,8 @@
 // The library for C and Rust: calls on lent bytes, each total, none keeping anything from one call to the next.
 mod answers;
 mod forms;
+mod many;
+mod places;
 mod runs;
 mod taken;
 mod verdicts;
@@ -13,21 +15,34 @@ ghost use Rattle.weftpillar.specs.Calls.{
   freshBytes,
   stepAnswer,
   stepRun,
+  stepsAnswer,
+  stepsRun,
+  stepsAnswers,
   apartAnswer,
   apartLeaves,
   reckonAnswer,
   reckonTicks,
   lineAnswer,
   lineStep,
+  freshPlaceAnswer,
+  freshPlaceBytes,
+  nextAnswer,
+  nextPlace,
+  nextStep,
 };
 use answers::line_number;
 use forms::write_line;
 use lines::read_line;
+use many::counts_differ;
+use many::steps_on;
+use places::next_on;
+use places::write_place;
 use run::fresh;
 use run_bytes::write_run;
 use runs::apart_on;
 use runs::reckon_on;
 use runs::step_on;
+use shown::fresh_place;
 use taken::ANOTHER_LENGTH;
 use taken::lengths_differ;
 use taken::taken_from;
@@ -80,6 +95,31 @@ pub extern "C" fn weftpillar_step(plan: &[u8], run: &mut [u8], letter: u8, numbe
     step_on(taken.plan, run, letter, number)
 }
 
+// Many steps, 5 bytes each, and a byte for the answer of each: the plan and the run are tested once, a refused step is passed over.
+#[no_mangle]
+pub extern "C" fn weftpillar_steps(
+    plan: &[u8],
+    run: &mut [u8],
+    steps: &[u8],
+    answers: &mut [u8],
+) -> u8
+    ensures { λ r. ⌜ r ≡ stepsAnswer (now (plan .entry)) (now (run .entry)) (now (steps .entry)) (now (answers .entry)) ⌝ }
+    ensures { λ _. ⌜ now (run .exit) ≡ stepsRun (now (plan .entry)) (now (run .entry)) (now (steps .entry)) (now (answers .entry)) ⌝ }
+    ensures { λ _. ⌜ now (answers .exit) ≡ stepsAnswers (now (plan .entry)) (now (run .entry)) (now (steps .entry)) (now (answers .entry)) ⌝ }
+{
+    if run.len() != 291 {
+        return ANOTHER_LENGTH;
+    }
+    if counts_differ(steps.len(), answers.len()) {
+        return ANOTHER_LENGTH;
+    }
+    let taken = taken_from(plan);
+    if taken.number != 0 {
+        return taken.number;
+    }
+    steps_on(taken.plan, run, steps, answers)
+}
+
 // Whether the run is out of step, and by which nodes: 9 bytes.
 #[no_mangle]
 pub extern "C" fn weftpillar_out_of_step(plan: &[u8], run: &[u8], answer: &mut [u8]) -> u8
@@ -124,4 +164,34 @@ pub extern "C" fn weftpillar_line(line: &[u8], step: &mut [u8]) -> u8
     let asked = read_line(line);
     write_line(step, asked);
     line_number(asked)
+}
+
+// Where a shown run begins, 292 bytes.
+#[no_mangle]
+pub extern "C" fn weftpillar_fresh_place(place: &mut [u8]) -> u8
+    ensures { λ r. ⌜ r ≡ freshPlaceAnswer (now (place .entry)) ⌝ }
+    ensures { λ _. ⌜ now (place .exit) ≡ freshPlaceBytes (now (place .entry)) ⌝ }
+{
+    if place.len() != 292 {
+        return ANOTHER_LENGTH;
+    }
+    write_place(place, 32, fresh_place());
+    0
+}
+
+// The next step of the shown run, 5 bytes, and the place moved on; 254 where the run is finished.
+#[no_mangle]
+pub extern "C" fn weftpillar_next(plan: &[u8], place: &mut [u8], step: &mut [u8]) -> u8
+    ensures { λ r. ⌜ r ≡ nextAnswer (now (plan .entry)) (now (place .entry)) (now (step .entry)) ⌝ }
+    ensures { λ _. ⌜ now (place .exit) ≡ nextPlace (now (plan .entry)) (now (place .entry)) (now (step .entry)) ⌝ }
+    ensures { λ _. ⌜ now (step .exit) ≡ nextStep (now (plan .entry)) (now (place .entry)) (now (step .entry)) ⌝ }
+{
+    if lengths_differ(place.len(), 292, step.len(), 5) {
+        return ANOTHER_LENGTH;
+    }
+    let taken = taken_from(plan);
+    if taken.number != 0 {
+        return taken.number;
+    }
+    next_on(taken.plan, place, step)
 }

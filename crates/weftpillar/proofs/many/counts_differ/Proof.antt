@@ -1,0 +1,18 @@
+use Rattle.weftpillar.proofs.AskedOn.{whole-fifths}
+use Prim.Native.Nat.{_*_}
+use borrow.Author.Tests.{ne-eqb}
+use mathlib.Core.Bool.{not}
+use mathlib.Core.Path.{sym, ap}
+use lib.Dec.{eqb}
+use native.Mathlib.Omega.{arith}
+use Rattle.weftpillar.proofs.many.counts_differ.Statement.{statement}
+use Rattle.weftpillar.proofs.many.counts_differ.Tie as tie
+
+returns : tie.Need-returns
+returns c = let a = c .before .args in let z = c .if1 .taken in sym (ap not (ne-eqb (a .steps) (5 * a .answers) (λ e. z (omega arith))))
+
+returns-2 : tie.Need-returns-2
+returns-2 c = ap not (whole-fifths _ _ (c .if1 .left))
+
+pub counts-differ-spec : {M : Type 1} → statement M
+counts-differ-spec = tie.close (tie.spec returns returns-2)

@@ -1,0 +1,77 @@
+use Rattle.weftpillar.specs.Calls.{nextRows, nextPlaceWrites, nextStepWrites, nextAnswer, nextPlace, nextStep}
+use Rattle.shown.specs.declared.Place.{Place}
+use Rattle.weftpillar.proofs.Calling.{by-length, by-file, by-rows, refused-leaves, lengths-right}
+use Rattle.weftpillar.specs.Answers.{planIn, leaves}
+use Rattle.plan.specs.declared.Plan.{Plan}
+use Rattle.run.specs.declared.Step.{Step}
+use Rattle.laws.specs.Row.{firstOf}
+use Prim.Native.Nat.{ℕ}
+use denote.Ref.{now}
+use native.Mathlib.Omega.{arith}
+use mathlib.Core.Path.{_≡_, sym, ap, _∙_}
+use borrow.Author.Needs.{needs}
+use Rattle.weftpillar.proofs.weftpillar_next.Statement.{statement}
+use Rattle.weftpillar.proofs.weftpillar_next.Tie as tie
+
+lengths-differ-requires : tie.Need-lengths-differ-requires
+lengths-differ-requires c κs = search needs
+
+returns : tie.Need-returns
+unfolding nextAnswer nextPlace nextStep
+returns c =
+    let a = c .before .before .before .before .before .args in
+    let e : 255 ≡ nextAnswer (now (a .plan)) (now (a .place)) (now (a .step)) = by-length _ _ _ (sym (c .before .lengths-differ .ensures) ∙ c .if1 .taken) in
+    (e, (refused-leaves 255 _ _ _ e (λ z. omega arith), refused-leaves 255 _ _ _ e (λ z. omega arith)))
+
+taken-from-requires : tie.Need-taken-from-requires
+taken-from-requires c κs = search needs
+
+returns-2 : tie.Need-returns-2
+unfolding nextAnswer nextPlace nextStep
+returns-2 c =
+    let a = c .before .before .before .before .before .before .before .before .args in
+    let t = c .before .before .taken-from in
+    let e : t .result .number ≡ nextAnswer (now (a .plan)) (now (a .place)) (now (a .step)) = by-file _ _ _ (sym (c .before .before .before .before .lengths-differ .ensures) ∙ c .before .before .before .if1 .left) _ (t .ensures .0) (c .if2 .taken) in
+    (e, (refused-leaves _ _ _ _ e (c .if2 .taken), refused-leaves _ _ _ _ e (c .if2 .taken)))
+
+next-on-requires : tie.Need-next-on-requires
+next-on-requires c κs = let l = lengths-right _ _ _ _ (sym (c .before .before .before .before .before .before .lengths-differ .ensures) ∙ c .before .before .before .before .before .if1 .left) in (c .before .before .before .before .taken-from .ensures .2 (c .before .before .if2 .left), (l .0, l .1))
+
+same-length : tie.Need-same-length
+same-length c = search needs
+
+same-length-2 : tie.Need-same-length-2
+same-length-2 c = search needs
+
+returns-3 : tie.Need-returns-3
+unfolding nextAnswer nextPlace nextStep
+returns-3 c =
+    let a = c .before .before .before .before .before .before .before .before .before .before .before .before .before .before .before .args in
+    let t = c .before .before .before .before .before .before .before .before .before .taken-from in
+    let d = c .before .before .before .before .next-on in
+    let place = now (a .place) in
+    let step = now (a .step) in
+    let P′ = planIn (now (a .plan)) in
+    let e : d .result ≡ nextAnswer (now (a .plan)) (now (a .place)) (now (a .step)) =
+    d .ensures .0
+    ∙ ap (λ (P : Plan). firstOf (nextRows P place)) (t .ensures .1)
+    ∙ by-rows _ _ (λ P. nextRows P place) (sym (c .before .before .before .before .before .before .before .before .before .before .before .lengths-differ .ensures) ∙ c .before .before .before .before .before .before .before .before .before .before .if1 .left) (sym (t .ensures .0) ∙ c .before .before .before .before .before .before .before .if2 .left) in (
+      e,
+      (
+        d .ensures .1 .0 ∙ ap (λ (P : Plan). leaves (d .result) (nextPlaceWrites P place) place) (t .ensures .1) ∙ ap (λ (n : ℕ). leaves n (nextPlaceWrites P′ place) place) e,
+        d .ensures .1 .1 ∙ ap (λ (P : Plan). leaves (d .result) (nextStepWrites P place step) step) (t .ensures .1) ∙ ap (λ (n : ℕ). leaves n (nextStepWrites P′ place step) step) e,
+      ),
+    )
+
+pub weftpillar-next-spec : {M : Type 1} → statement M
+weftpillar-next-spec =
+    tie.close
+    (tie.spec
+    lengths-differ-requires
+    returns
+    taken-from-requires
+    returns-2
+    next-on-requires
+    same-length
+    same-length-2
+    returns-3)

@@ -1,0 +1,90 @@
+// Many steps by bytes, 5 each, one after the other.
+ghost use mathlib.Core.Path.{_≡_};
+ghost use mathlib.Core.Bool.{true, not};
+ghost use Prim.Native.Nat.{_*_, _≤_};
+ghost use lib.ListN.{length};
+ghost use lib.Dec.{eqb};
+ghost use Rattle.laws.specs.Row.{firstOf};
+ghost use Rattle.plan.specs.Tested.{planNumber, Sound};
+ghost use Rattle.run.specs.State.{inRange};
+ghost use Rattle.weftpillar.specs.Answers.{leaves};
+ghost use Rattle.weftpillar.specs.Many.{askedOf, afterAsked, answersBytes};
+ghost use Rattle.weftpillar.specs.Calls.{runFor, stepsRows, stepsWrites};
+use crate::answers::answer_number;
+use crate::runs::run_outside;
+use lines::is_letter;
+use lines::step_by;
+use plan::LINE_WRONG;
+use plan::Plan;
+use plan::RUN_OUTSIDE;
+use plan_file::be32;
+use run::Answer;
+use run::Run;
+use run::Stepped;
+use run_bytes::read_run;
+use run_bytes::write_run;
+use steps::step_in_range;
+
+// Not 5 bytes for each answer.
+pub fn counts_differ(steps: usize, answers: usize) -> bool
+    ensures { λ r. ⌜ r ≡ not (eqb steps (5 * answers)) ⌝ }
+{
+    if steps % 5 != 0 {
+        return true;
+    }
+    steps / 5 != answers
+}
+
+// A step by its letter and number. The run after it is in range again.
+fn step_asked(plan: Plan, run: Run, letter: u8, number: u32) -> Stepped
+    requires { ⌜ Sound plan ⌝ }
+    requires { ⌜ inRange plan run ≡ true ⌝ }
+    ensures { λ r. ⌜ (r ≡ askedOf plan run letter number) × (inRange plan (r .run) ≡ true) ⌝ }
+{
+    if !is_letter(letter) {
+        return Stepped {
+            answer: Answer::Refused(LINE_WRONG),
+            run: run,
+        };
+    }
+    step_in_range(plan, run, step_by(letter, number))
+}
+
+// The run after all steps, and an answer for each.
+fn steps_asked(plan: Plan, run: Run, steps: &[u8], answers: &mut [u8]) -> Run
+    requires { ⌜ Sound plan ⌝ }
+    requires { ⌜ inRange plan run ≡ true ⌝ }
+    requires { ⌜ length (now steps) ≡ 5 * length (now answers) ⌝ }
+    ensures { λ r. ⌜ r ≡ afterAsked plan (now (steps .entry)) (length (now (answers .entry))) run ⌝ }
+    ensures { λ _. ⌜ now (answers .exit) ≡ answersBytes plan (now (steps .entry)) (length (now (answers .entry))) run (now (answers .entry)) ⌝ }
+{
+    let count = answers.len();
+    let mut state = run;
+    for k in 0..count {
+        let done = step_asked(plan, state, steps[5 * k], be32(steps, 5 * k + 1));
+        let answer = done.answer;
+        let next = done.run;
+        answers[k] = answer_number(answer);
+        state = next;
+    }
+    state
+}
+
+// Many steps on the run in bytes, of a plan that passed 1 to 9, with every buffer of the right length.
+pub fn steps_on(plan: Plan, run: &mut [u8], steps: &[u8], answers: &mut [u8]) -> u8
+    requires { ⌜ planNumber plan ≡ 0 ⌝ }
+    requires { ⌜ length (now run) ≡ 291 ⌝ }
+    requires { ⌜ length (now steps) ≡ 5 * length (now answers) ⌝ }
+    ensures { λ r. ⌜ r ≡ firstOf (stepsRows plan (now (run .entry))) ⌝ }
+    ensures { λ r. ⌜ now (run .exit) ≡ leaves r (stepsWrites plan (now (run .entry)) (now (steps .entry)) (length (now (answers .entry)))) (now (run .entry)) ⌝ }
+    ensures { λ r. ⌜ now (answers .exit) ≡ leaves r (answersBytes plan (now (steps .entry)) (length (now (answers .entry))) (runFor plan (now (run .entry))) (now (answers .entry))) (now (answers .entry)) ⌝ }
+{
+    if run_outside(plan, run) {
+        return RUN_OUTSIDE;
+    }
+    let nodes = plan.nodes.0 as usize;
+    let before = read_run(run, nodes);
+    let after = steps_asked(plan, before, steps, answers);
+    write_run(run, nodes, after);
+    0
+}
