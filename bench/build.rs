@@ -45,7 +45,9 @@ fn slipped(root: &Path, file: &str, slip: &Slip) -> String {
     }
     let places = text.lines().filter(|line| *line == slip.old).count();
     assert!(places == 1, "{}: its old line stands in {places} places of {file}", slip.name);
-    text.lines().map(|line| if line == slip.old { slip.new.as_str() } else { line }).fold(String::new(), |all, line| all + line + "\n")
+    text.lines()
+        .map(|line| if line == slip.old { slip.new.as_str() } else { line })
+        .fold(String::new(), |all, line| all + line + "\n")
 }
 
 fn main() {
@@ -63,7 +65,10 @@ fn main() {
             module += &format!("#[path = {:?}]\npub mod {};\n", path, &file[..file.len() - 3]);
         }
         modules += &format!("{module}}}\n");
-        list += &format!("Slip {{ name: {0:?}, words: {1:?}, side: &{2}::bytes::Model }},\n", slip.name, slip.words, slip.name);
+        list += &format!(
+            "Slip {{ name: {0:?}, words: {1:?}, side: &{2}::bytes::Model }},\n",
+            slip.name, slip.words, slip.name
+        );
     }
     let count = list.lines().count();
     let table = format!("pub static SLIPS: [Slip; {count}] = [\n{list}];\n");

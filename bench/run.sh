@@ -5,11 +5,11 @@ here=$(cd "$(dirname "$0")" && pwd) || exit 2
 home=$(dirname "$here")
 cd "$home" || exit 2
 
-# Proves and builds what is not there yet; what it prints is kept for a failure.
+# Proves and builds what is missing or older than a source file; what it prints is kept for a failure.
 built() {
     file=$1
     shift
-    if [ -e "$file" ]; then
+    if [ -e "$file" ] && [ -z "$(find crates -name '*.rt' -newer "$file")" ]; then
         return
     fi
     echo "bench: $* (once; this takes some minutes)" >&2
@@ -19,6 +19,7 @@ built() {
         echo "bench: $* failed; the whole log is bench/target/rt.log" >&2
         exit 2
     fi
+    touch "$file"
 }
 
 built target/staticlib/libweftpillar.a rt staticlib weftpillar

@@ -166,10 +166,14 @@ impl<'a> Comparison<'a> {
         let (left_answer, right_answer) = (left.answer(self.left), right.answer(self.right));
         self.answers[self.kind as usize][left_answer as usize] += 1;
         if left_answer != right_answer || left != right {
-            return Err(format!("given\n{input}\nleft answers {left_answer}\n{left}\nright answers {right_answer}\n{right}"));
+            return Err(format!(
+                "given\n{input}\nleft answers {left_answer}\n{left}\nright answers {right_answer}\n{right}"
+            ));
         }
         if left_answer != 0 && left != *input {
-            return Err(format!("given\n{input}\nboth answer {left_answer}, which is no 0, and change what was lent\n{left}"));
+            return Err(format!(
+                "given\n{input}\nboth answer {left_answer}, which is no 0, and change what was lent\n{left}"
+            ));
         }
         Ok((left_answer, left))
     }
@@ -299,7 +303,9 @@ impl<'a> Comparison<'a> {
             let (answer, stepped) = self.same(&input)?;
             state = after.state.bytes().to_vec();
             if answer != 0 || stepped.state.bytes() != &state[..RUN_BYTES] {
-                return Err(format!("the step that is shown is another than the step that is done\n{after}\n{stepped}"));
+                return Err(format!(
+                    "the step that is shown is another than the step that is done\n{after}\n{stepped}"
+                ));
             }
             steps += 1;
         }
@@ -417,11 +423,7 @@ fn row_of_steps(random: &mut Random, plan: &Plan, state: &[u8]) -> Vec<u8> {
     let likely = random.pick(&[50, 90, 100]);
     let mut steps = Vec::new();
     for _ in 0..random.between(0, longest) {
-        let step = if random.chance(likely) {
-            likely_step(random, plan, &run)
-        } else {
-            some_step(random, plan, &run)
-        };
+        let step = if random.chance(likely) { likely_step(random, plan, &run) } else { some_step(random, plan, &run) };
         let _ = plan.step(&mut run, step);
         steps.extend(with_letter(random, step));
     }

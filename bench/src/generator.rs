@@ -23,7 +23,7 @@ impl Random {
 
     /// 0 to n − 1; 0 for n = 0.
     pub fn below(&mut self, n: u32) -> u32 {
-        ((self.any() >> 32) * n as u64 >> 32) as u32
+        (((self.any() >> 32) * n as u64) >> 32) as u32
     }
 
     pub fn between(&mut self, low: u32, high: u32) -> u32 {

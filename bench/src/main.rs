@@ -48,7 +48,11 @@ fn print_answers(comparison: &Comparison) {
     }
     println!("single steps inside rows: {}", comparison.in_rows.iter().sum::<u64>());
     print(&comparison.in_rows);
-    println!("verdicts: {} accepted, rules 1, 2, 3 first to fail: {:?}", comparison.outcomes[0], &comparison.outcomes[1..]);
+    println!(
+        "verdicts: {} accepted, rules 1, 2, 3 first to fail: {:?}",
+        comparison.outcomes[0],
+        &comparison.outcomes[1..]
+    );
     println!("shown runs followed to their end: {}", comparison.whole_runs);
     let expected = (1..=17).chain(19..=22).chain([0, 254, 255]);
     let missing: Vec<usize> = expected.filter(|&n| seen[n] == 0).collect();
@@ -63,7 +67,10 @@ fn compare(seed: u64, count: u64, only: Option<&String>) -> Result<(), String> {
     for kind in KINDS.into_iter().filter(|kind| only.is_none_or(|name| *name == format!("{kind:?}"))) {
         comparison.kind(kind, seed, count).map_err(|difference| {
             let (kind, group) = (difference.kind, difference.group);
-            format!("a difference in {kind:?}, seed {seed}, group {group} (left the library, right the model)\n{}", difference.text)
+            format!(
+                "a difference in {kind:?}, seed {seed}, group {group} (left the library, right the model)\n{}",
+                difference.text
+            )
         })?;
     }
     print_answers(&comparison);

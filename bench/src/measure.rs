@@ -34,7 +34,14 @@ fn by_turns(rounds: usize, count: u64, mut theirs: impl FnMut(), mut ours: impl 
 
 fn heading(what: &str, theirs: &str) {
     println!("\n{what}");
-    println!("  {:<30} {:>12} {:>12} {:>8} {:>14}", "", format!("{theirs} ns"), "model ns", "ratio", format!("{theirs}/s"));
+    println!(
+        "  {:<30} {:>12} {:>12} {:>8} {:>14}",
+        "",
+        format!("{theirs} ns"),
+        "model ns",
+        "ratio",
+        format!("{theirs}/s")
+    );
 }
 
 fn print_row(name: &str, (theirs, ours): (f64, f64)) {
@@ -51,7 +58,17 @@ fn spread(random: &mut Random, nodes: u32, frame: u32, guard: u8) -> Numbers {
         }
     }
     let (min, max) = (999_990, 1_000_000);
-    Numbers { nodes: nodes as u8, frame: frame as u16, active: frame as u16, ticks: 40, guard, tail: 10, min, max, slots }
+    Numbers {
+        nodes: nodes as u8,
+        frame: frame as u16,
+        active: frame as u16,
+        ticks: 40,
+        guard,
+        tail: 10,
+        min,
+        max,
+        slots,
+    }
 }
 
 fn numbered(nodes: u32, frame: u32) -> String {
@@ -155,14 +172,20 @@ fn questions(library: &dyn Calls, random: &mut Random) {
                 black_box(side.out_of_step(&file, black_box(&run), &mut answer));
             }
         };
-        print_row(&format!("out of step, {}", numbered(nodes, 512)), by_turns(ROUNDS, 10_000, || out(library), || out(&Model)));
+        print_row(
+            &format!("out of step, {}", numbered(nodes, 512)),
+            by_turns(ROUNDS, 10_000, || out(library), || out(&Model)),
+        );
         let reckon = |side: &dyn Calls| {
             let mut ticks = [0; TICKS_BYTES];
             for i in 0..10_000 {
                 black_box(side.reckon(&file, black_box(&run), i % nodes, &mut ticks));
             }
         };
-        print_row(&format!("reckoning, {}", numbered(nodes, 512)), by_turns(ROUNDS, 10_000, || reckon(library), || reckon(&Model)));
+        print_row(
+            &format!("reckoning, {}", numbered(nodes, 512)),
+            by_turns(ROUNDS, 10_000, || reckon(library), || reckon(&Model)),
+        );
     }
 }
 
@@ -188,7 +211,9 @@ fn shown_steps(library: &dyn Calls, random: &mut Random) {
 fn lines(library: &dyn Calls, random: &mut Random) {
     heading("step lines read", "library");
     for (name, most) in [("numbers below 32", 32), ("numbers of any length", u32::MAX)] {
-        let texts: Vec<Vec<u8>> = (0..1000).map(|_| format!("{} {}\n", random.pick(&['D', 'T', 'S']), random.below(most)).into_bytes()).collect();
+        let texts: Vec<Vec<u8>> = (0..1000)
+            .map(|_| format!("{} {}\n", random.pick(&['D', 'T', 'S']), random.below(most)).into_bytes())
+            .collect();
         let work = |side: &dyn Calls| {
             let mut step = [0; STEP_BYTES];
             for line in texts.iter().cycle().take(50_000) {

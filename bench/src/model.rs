@@ -204,8 +204,7 @@ impl Plan {
     }
 
     pub fn in_range(&self, run: &Run) -> bool {
-        let node_in_range =
-            |node: &Node| node.clock < self.ticks && node.slot < self.frame && node.time <= self.max;
+        let node_in_range = |node: &Node| node.clock < self.ticks && node.slot < self.frame && node.time <= self.max;
         self.nodes(run).iter().all(node_in_range) && run.last.is_none_or(|slot| slot < self.frame)
     }
 

@@ -174,7 +174,10 @@ fn shown_twice(random: &mut Random) -> Result<(), String> {
         runs += 1;
         by_rule[plan.verdict().failed().unwrap_or(0) as usize] += 1;
     }
-    println!("{runs} shown runs ({} {} {} for rules 1, 2, 3), {steps} steps: by rounds and moments the same as by places", by_rule[1], by_rule[2], by_rule[3]);
+    println!(
+        "{runs} shown runs ({} {} {} for rules 1, 2, 3), {steps} steps: by rounds and moments the same as by places",
+        by_rule[1], by_rule[2], by_rule[3]
+    );
     Ok(())
 }
 
