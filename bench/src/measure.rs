@@ -11,25 +11,29 @@ use std::path::{Path, PathBuf};
 use std::process::{Command, Stdio};
 use std::time::Instant;
 
-const ROUNDS: usize = 9;
-const PROGRAM_ROUNDS: usize = 5;
+const ROUNDS: usize = 25;
+const PROGRAM_ROUNDS: usize = 9;
 const NODES: [u32; 3] = [3, 10, 32];
+const VERDICTS: usize = 512;
+const STEPS: usize = 20_000;
+const SHOWN_STEPS: usize = 500;
 
-/// Nanoseconds that `work` takes for one of its `count` parts.
-fn nanoseconds(count: u64, work: impl FnOnce()) -> f64 {
-    let started = Instant::now();
-    work();
-    started.elapsed().as_nanos() as f64 / count as f64
-}
-
-/// Both sides by turns; the best time of each for one of `count` parts.
-fn by_turns(rounds: usize, count: u64, mut theirs: impl FnMut(), mut ours: impl FnMut()) -> (f64, f64) {
-    let mut best = (f64::INFINITY, f64::INFINITY);
+/// Each of them by turns, in slices of some milliseconds; the best time of each for one of `count` parts.
+fn by_turns<const SIDES: usize>(rounds: usize, count: u64, mut sides: [&mut dyn FnMut(); SIDES]) -> [f64; SIDES] {
+    let mut best = [f64::INFINITY; SIDES];
     for _ in 0..rounds {
-        best.0 = nanoseconds(count, &mut theirs).min(best.0);
-        best.1 = nanoseconds(count, &mut ours).min(best.1);
+        for (work, best) in sides.iter_mut().zip(&mut best) {
+            let started = Instant::now();
+            work();
+            *best = best.min(started.elapsed().as_nanos() as f64 / count as f64);
+        }
     }
     best
+}
+
+/// The library and the model by turns, on the same work.
+fn both(count: u64, library: &dyn Calls, work: impl Fn(&dyn Calls)) -> [f64; 2] {
+    by_turns(ROUNDS, count, [&mut || work(library), &mut || work(&Model)])
 }
 
 fn heading(what: &str, theirs: &str) {
@@ -44,7 +48,7 @@ fn heading(what: &str, theirs: &str) {
     );
 }
 
-fn print_row(name: &str, (theirs, ours): (f64, f64)) {
+fn print_row(name: &str, [theirs, ours]: [f64; 2]) {
     println!("  {name:<30} {theirs:>12.1} {ours:>12.1} {:>8.2} {:>14.0}", theirs / ours, 1e9 / theirs);
 }
 
@@ -84,12 +88,12 @@ fn verdicts(library: &dyn Calls, random: &mut Random) {
             let plans: Vec<Vec<u8>> = (0..64).map(|_| spread(random, nodes, frame, 10).file()).collect();
             let work = |side: &dyn Calls| {
                 let mut verdict = [0; VERDICT_BYTES];
-                for plan in plans.iter().cycle().take(4096) {
+                for plan in plans.iter().cycle().take(VERDICTS) {
                     black_box(side.judge(black_box(plan), &mut verdict));
                     black_box(&verdict);
                 }
             };
-            print_row(&numbered(nodes, frame), by_turns(ROUNDS, 4096, || work(library), || work(&Model)));
+            print_row(&numbered(nodes, frame), both(VERDICTS as u64, library, work));
         }
     }
 }
@@ -120,9 +124,8 @@ fn stepped_plans(random: &mut Random, count: usize) -> Vec<(String, Vec<u8>, Vec
 }
 
 fn steps(library: &dyn Calls, random: &mut Random) {
-    let count = 20_000;
     heading("steps, one call each (plan and run are tested in each)", "library");
-    for (name, file, steps) in &stepped_plans(random, count) {
+    for (name, file, steps) in &stepped_plans(random, STEPS) {
         let asked: Vec<(u8, u32)> = steps.iter().map(|&step| split(step)).collect();
         let work = |side: &dyn Calls| {
             let mut run = [0; RUN_BYTES];
@@ -130,14 +133,13 @@ fn steps(library: &dyn Calls, random: &mut Random) {
                 assert_eq!(side.step(file, &mut run, letter, number), 0);
             }
         };
-        print_row(name, by_turns(ROUNDS, count as u64, || work(library), || work(&Model)));
+        print_row(name, both(STEPS as u64, library, work));
     }
 }
 
 fn rows(library: &dyn Calls, random: &mut Random) {
-    let count = 20_000;
     heading("steps in rows of 1000 (plan and run are tested once a row)", "library");
-    for (name, file, steps) in &stepped_plans(random, count) {
+    for (name, file, steps) in &stepped_plans(random, STEPS) {
         let asked: Vec<u8> = steps.iter().flat_map(|&step| step_bytes(step)).collect();
         let work = |side: &dyn Calls| {
             let mut run = [0; RUN_BYTES];
@@ -147,7 +149,7 @@ fn rows(library: &dyn Calls, random: &mut Random) {
                 assert!(answers.iter().all(|&answer| answer == 0));
             }
         };
-        print_row(name, by_turns(ROUNDS, count as u64, || work(library), || work(&Model)));
+        print_row(name, both(STEPS as u64, library, work));
     }
 }
 
@@ -172,20 +174,14 @@ fn questions(library: &dyn Calls, random: &mut Random) {
                 black_box(side.out_of_step(&file, black_box(&run), &mut answer));
             }
         };
-        print_row(
-            &format!("out of step, {}", numbered(nodes, 512)),
-            by_turns(ROUNDS, 10_000, || out(library), || out(&Model)),
-        );
+        print_row(&format!("out of step, {}", numbered(nodes, 512)), both(10_000, library, out));
         let reckon = |side: &dyn Calls| {
             let mut ticks = [0; TICKS_BYTES];
             for i in 0..10_000 {
                 black_box(side.reckon(&file, black_box(&run), i % nodes, &mut ticks));
             }
         };
-        print_row(
-            &format!("reckoning, {}", numbered(nodes, 512)),
-            by_turns(ROUNDS, 10_000, || reckon(library), || reckon(&Model)),
-        );
+        print_row(&format!("reckoning, {}", numbered(nodes, 512)), both(10_000, library, reckon));
     }
 }
 
@@ -197,13 +193,13 @@ fn shown_steps(library: &dyn Calls, random: &mut Random) {
             let work = |side: &dyn Calls| {
                 let mut place = [0; PLACE_BYTES];
                 let mut step = [0; STEP_BYTES];
-                for _ in 0..2_000 {
+                for _ in 0..SHOWN_STEPS {
                     if side.next(&file, &mut place, &mut step) == FINISHED {
                         place.fill(0);
                     }
                 }
             };
-            print_row(&numbered(nodes, frame), by_turns(ROUNDS, 2_000, || work(library), || work(&Model)));
+            print_row(&numbered(nodes, frame), both(SHOWN_STEPS as u64, library, work));
         }
     }
 }
@@ -220,7 +216,7 @@ fn lines(library: &dyn Calls, random: &mut Random) {
                 black_box(side.line(black_box(line), &mut step));
             }
         };
-        print_row(name, by_turns(ROUNDS, 50_000, || work(library), || work(&Model)));
+        print_row(name, both(50_000, library, work));
     }
 }
 
@@ -254,12 +250,9 @@ fn stepper_program(random: &mut Random) {
         fs::write(&steps_path, &text).expect("a file of steps");
         let theirs = written(&program, &[&plan_path], &steps_path);
         assert!(theirs == written(&this, &[model, &plan_path], &steps_path), "another output");
-        let times = by_turns(
-            PROGRAM_ROUNDS,
-            count as u64,
-            || run_once(&program, &[&plan_path], &steps_path),
-            || run_once(&this, &[model, &plan_path], &steps_path),
-        );
+        let mut run_theirs = || run_once(&program, &[&plan_path], &steps_path);
+        let mut run_ours = || run_once(&this, &[model, &plan_path], &steps_path);
+        let times = by_turns(PROGRAM_ROUNDS, count as u64, [&mut run_theirs, &mut run_ours]);
         print_row(&name, times);
     }
 }
@@ -280,13 +273,15 @@ fn judge_program(random: &mut Random) {
         fs::write(&path, &file).expect("a plan file");
         let text = written(&program, &[], &path);
         let lines = line_count(&text);
-        for (how, word) in [("by places", "judge-model"), ("by rounds", "judge-model-by-rounds")] {
-            let word = Path::new(word);
-            assert!(text == written(&this, &[word], &path), "another output");
-            let rounds = if lines > 5_000_000 { 2 } else { PROGRAM_ROUNDS };
-            let times = by_turns(rounds, lines, || run_once(&program, &[], &path), || run_once(&this, &[word], &path));
-            print_row(&format!("{name} {how}"), times);
-        }
+        let [places, rounds] = [Path::new("judge-model"), Path::new("judge-model-by-rounds")];
+        assert!(text == written(&this, &[places], &path) && text == written(&this, &[rounds], &path), "another output");
+        let mut judge = || run_once(&program, &[], &path);
+        let mut by_places = || run_once(&this, &[places], &path);
+        let mut by_rounds = || run_once(&this, &[rounds], &path);
+        let turns = if lines > 5_000_000 { 1 } else { PROGRAM_ROUNDS };
+        let times = by_turns(turns, lines, [&mut judge, &mut by_places, &mut by_rounds]);
+        print_row(&format!("{name} by places"), [times[0], times[1]]);
+        print_row(&format!("{name} by rounds"), [times[0], times[2]]);
         println!("    {lines} lines");
     }
 }
@@ -297,7 +292,9 @@ fn process_start(_: &mut Random) {
     fs::write(&path, b"").expect("an empty file");
     let model = Path::new("judge-model");
     heading("process start: an empty plan judged", "judge");
-    let times = by_turns(100, 1, || run_once(&program, &[], &path), || run_once(&this, &[model], &path));
+    let mut judge = || run_once(&program, &[], &path);
+    let mut ours = || run_once(&this, &[model], &path);
+    let times = by_turns(100, 1, [&mut judge, &mut ours]);
     print_row("refused 20", times);
 }
 
