@@ -4,8 +4,8 @@ ghost use Prim.Native.Nat.{_≤_};
 ghost use lib.ListN.{length};
 ghost use Rattle.laws.specs.Row.{firstOf};
 ghost use Rattle.plan.specs.Tested.{planNumber};
-ghost use Rattle.weftpillar.specs.Answers.{leaves};
-ghost use Rattle.weftpillar.specs.Forms.{markByte, markIn, placeIn, placeBytes, placeWrong};
+ghost use Rattle.weftpillar.specs.Answers.{nextNumber, leaves};
+ghost use Rattle.weftpillar.specs.Forms.{markByte, markIn, placeIn, placeBytes, placeWrong, nextBytes};
 ghost use Rattle.weftpillar.specs.Calls.{nextRows, nextPlaceWrites, nextStepWrites};
 use crate::answers::next_number;
 use crate::forms::write_next;
@@ -15,6 +15,7 @@ use run_bytes::numbers_wrong;
 use run_bytes::put8;
 use run_bytes::read_run;
 use run_bytes::write_run;
+use shown::Given;
 use shown::Mark;
 use shown::Place;
 use shown::next_shown;
@@ -72,6 +73,24 @@ pub fn write_place(bytes: &mut [u8], nodes: usize, place: Place)
     put8(bytes, 291, mark_byte(mark));
 }
 
+// The number of a next step's answer; the step and the place after it are put into bytes where there is one.
+fn write_given(place: &mut [u8], nodes: usize, step: &mut [u8], given: Given) -> u8
+    requires { ⌜ (nodes ≤ 32) × (length (now place) ≡ 292) × (length (now step) ≡ 5) ⌝ }
+    ensures { λ r. ⌜ r ≡ nextNumber (given .next) ⌝ }
+    ensures { λ r. ⌜ now (place .exit) ≡ leaves r (placeBytes nodes (given .place) (now (place .entry))) (now (place .entry)) ⌝ }
+    ensures { λ r. ⌜ now (step .exit) ≡ leaves r (nextBytes (given .next) (now (step .entry))) (now (step .entry)) ⌝ }
+{
+    let next = given.next;
+    let number = next_number(next);
+    if number != 0 {
+        return number;
+    }
+    let after = given.place;
+    write_place(place, nodes, after);
+    write_next(step, next);
+    0
+}
+
 // The next shown step of a plan that passed 1 to 9, with both buffers of the right length.
 pub fn next_on(plan: Plan, place: &mut [u8], step: &mut [u8]) -> u8
     requires { ⌜ planNumber plan ≡ 0 ⌝ }
@@ -85,14 +104,6 @@ pub fn next_on(plan: Plan, place: &mut [u8], step: &mut [u8]) -> u8
     if place_wrong(place, nodes) {
         return RUN_OUTSIDE;
     }
-    let given = next_shown(plan, read_place(place, nodes));
-    let next = given.next;
-    let number = next_number(next);
-    if number != 0 {
-        return number;
-    }
-    let after = given.place;
-    write_place(place, nodes, after);
-    write_next(step, next);
-    0
+    let before = read_place(place, nodes);
+    write_given(place, nodes, step, next_shown(plan, before))
 }

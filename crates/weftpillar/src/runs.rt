@@ -1,10 +1,12 @@
 // Calls on a run in bytes, of a plan that passed 1 to 9, with every buffer of the right length.
 ghost use mathlib.Core.Path.{_≡_};
+ghost use Prim.Native.Nat.{_≤_};
 ghost use lib.ListN.{length};
 ghost use Rattle.laws.specs.Row.{firstOf};
 ghost use Rattle.plan.specs.Tested.{planNumber};
 ghost use Rattle.run.specs.State.{apartOf};
-ghost use Rattle.weftpillar.specs.Answers.{leaves};
+ghost use Rattle.run_bytes.specs.RunBytes.{runBytes};
+ghost use Rattle.weftpillar.specs.Answers.{answerNumber, leaves};
 ghost use Rattle.weftpillar.specs.Forms.{apartBytes};
 ghost use Rattle.weftpillar.specs.Calls.{runFor, runOutside, stepRows, stepWrites, apartRows, reckonRows, reckonWrites};
 use crate::answers::answer_number;
@@ -18,6 +20,7 @@ use plan::Node;
 use plan::Plan;
 use plan::RUN_OUTSIDE;
 use reckoning::reckon_tested;
+use run::Stepped;
 use run::apart_tested;
 use run::in_range;
 use run_bytes::numbers_wrong;
@@ -39,6 +42,22 @@ pub fn run_outside(plan: Plan, run: &[u8]) -> bool
     !in_range(plan, state)
 }
 
+// The number of a step's answer; the run after it is put into bytes where the step is done.
+fn write_done(run: &mut [u8], nodes: usize, done: Stepped) -> u8
+    requires { ⌜ (nodes ≤ 32) × (length (now run) ≡ 291) ⌝ }
+    ensures { λ r. ⌜ r ≡ answerNumber (done .answer) ⌝ }
+    ensures { λ r. ⌜ now (run .exit) ≡ leaves r (runBytes nodes (done .run) (now (run .entry))) (now (run .entry)) ⌝ }
+{
+    let answer = done.answer;
+    let number = answer_number(answer);
+    if number != 0 {
+        return number;
+    }
+    let after = done.run;
+    write_run(run, nodes, after);
+    0
+}
+
 pub fn step_on(plan: Plan, run: &mut [u8], letter: u8, number: u32) -> u8
     requires { ⌜ planNumber plan ≡ 0 ⌝ }
     requires { ⌜ length (now run) ≡ 291 ⌝ }
@@ -53,15 +72,11 @@ pub fn step_on(plan: Plan, run: &mut [u8], letter: u8, number: u32) -> u8
         return RUN_OUTSIDE;
     }
     let before = read_run(run, nodes);
-    let done = step_tested(plan, before, step_by(letter, number));
-    let answer = done.answer;
-    let refusal = answer_number(answer);
-    if refusal != 0 {
-        return refusal;
-    }
-    let after = done.run;
-    write_run(run, nodes, after);
-    0
+    write_done(
+        run,
+        nodes,
+        step_tested(plan, before, step_by(letter, number)),
+    )
 }
 
 pub fn apart_on(plan: Plan, run: &[u8], answer: &mut [u8]) -> u8

@@ -4,12 +4,11 @@ use Rattle.shown.specs.Shown.{givenOf}
 use Rattle.shown.specs.declared.Given.{Given}
 use Rattle.shown.specs.declared.Place.{Place}
 use Rattle.weftpillar.specs.Forms.{placeBytes, nextBytes}
-use Rattle.weftpillar.proofs.Calling.{none-given, refused-leaves, done-leaves, refused-here, refused-next}
+use Rattle.weftpillar.proofs.Calling.{refused-last, refused-leaves}
 use Rattle.plan.specs.Refusals.{run-outside}
 use Rattle.laws.proofs.Rows.{first-here, first-next}
 use Rattle.laws.specs.Row.{given}
 use Rattle.plan.proofs.Sound.{sound}
-use mathlib.Core.List.{[]}
 use denote.Ref.{now}
 use native.Mathlib.Omega.{arith}
 use mathlib.Core.Path.{_≡_, refl, sym, ap, _∙_}
@@ -36,46 +35,28 @@ read-place-requires c κs = (sound _ (c .before .before .before .before .before 
 next-shown-requires : tie.Need-next-shown-requires
 next-shown-requires c κs = search needs
 
-next-number-requires : tie.Need-next-number-requires
-next-number-requires c κs = search needs
+write-given-requires : tie.Need-write-given-requires
+write-given-requires c κs = (sound _ (c .before .before .before .before .before .before .before .before .before .before .before .pre .0) .nodes-high, c .before .before .before .before .before .before .before .before .before .before .before .pre .1 .0, c .before .before .before .before .before .before .before .before .before .before .before .pre .1 .1)
 
 same-length-2 : tie.Need-same-length-2
 same-length-2 c = search needs
 
-returns-2 : tie.Need-returns-2
-unfolding nextRows
-returns-2 c =
-    let a = c .before .before .before .before .before .before .before .before .before .before .before .args in
-    let d : c .before .before .next-shown .result ≡ givenOf (a .plan) (placeFor (a .plan) (now (a .place))) =
-    c .before .before .next-shown .ensures ∙ ap (λ (q : Place). givenOf (a .plan) q) (c .before .before .before .read-place .ensures) in
-    let m = c .before .next-number .ensures ∙ ap (λ (g : Given). nextNumber (g .next)) d in (
-      refused-here _ _ [] m (c .if2 .taken) ∙ sym (first-next (given run-outside _) _ (sym (c .before .before .before .before .before .before .place-wrong .ensures) ∙ c .before .before .before .before .before .if1 .left)),
-      (refused-leaves _ _ _ _ refl (c .if2 .taken), refused-leaves _ _ _ _ refl (c .if2 .taken)),
-    )
-
-write-place-requires : tie.Need-write-place-requires
-write-place-requires c κs = (sound _ (c .before .before .before .before .before .before .before .before .before .before .before .before .before .pre .0) .nodes-high, c .before .before .before .before .before .before .before .before .before .before .before .before .before .pre .1 .0)
-
-write-next-requires : tie.Need-write-next-requires
-write-next-requires c κs = c .before .before .before .before .before .before .before .before .before .before .before .before .before .before .before .before .before .pre .1 .1
-
 same-length-3 : tie.Need-same-length-3
 same-length-3 c = search needs
 
-same-length-4 : tie.Need-same-length-4
-same-length-4 c = search needs
-
-returns-3 : tie.Need-returns-3
+returns-2 : tie.Need-returns-2
 unfolding nextRows
-returns-3 c =
-    let a = c .before .before .before .before .before .before .before .before .before .before .before .before .before .before .before .before .before .before .before .before .args in
-    let d : c .before .before .before .before .before .before .before .before .before .before .before .next-shown .result ≡ givenOf (a .plan) (placeFor (a .plan) (now (a .place))) =
-    c .before .before .before .before .before .before .before .before .before .before .before .next-shown .ensures ∙ ap (λ (q : Place). givenOf (a .plan) q) (c .before .before .before .before .before .before .before .before .before .before .before .before .read-place .ensures) in
-    let m = c .before .before .before .before .before .before .before .before .before .before .next-number .ensures ∙ ap (λ (g : Given). nextNumber (g .next)) d in (
-      sym (first-next (given run-outside _) _ (sym (c .before .before .before .before .before .before .before .before .before .before .before .before .before .before .before .place-wrong .ensures) ∙ c .before .before .before .before .before .before .before .before .before .before .before .before .before .before .if1 .left) ∙ refused-next _ _ [] m (c .before .before .before .before .before .before .before .before .before .if2 .left) ∙ none-given),
+returns-2 c =
+    let a = c .before .before .before .before .before .before .before .before .before .before .before .before .before .before .before .before .args in
+    let b = now (a .place) in
+    let x : Given = givenOf (a .plan) (placeFor (a .plan) b) in
+    let g = c .before .before .before .before .write-given in
+    let d : c .before .before .before .before .before .next-shown .result ≡ x = c .before .before .before .before .before .next-shown .ensures ∙ ap (λ (q : Place). givenOf (a .plan) q) (c .before .before .before .before .before .before .before .before .read-place .ensures) in
+    let m = g .ensures .0 ∙ ap (λ (y : Given). nextNumber (y .next)) d in (
+      m ∙ refused-last (nextNumber (x .next)) ∙ sym (first-next (given run-outside _) _ (sym (c .before .before .before .before .before .before .before .before .before .before .before .place-wrong .ensures) ∙ c .before .before .before .before .before .before .before .before .before .before .if1 .left)),
       (
-        done-leaves 0 _ _ _ refl (c .before .before .before .before .before .before .write-place .ensures ∙ ap (λ (g : Given). placeBytes (a .plan .nodes .0) (g .place) (now (a .place))) d),
-        done-leaves 0 _ _ _ refl (c .before .before .write-next .ensures ∙ ap (λ (g : Given). nextBytes (g .next) (now (a .step))) d),
+        g .ensures .1 .0 ∙ ap (λ (y : Given). leaves (g .result) (placeBytes (a .plan .nodes .0) (y .place) b) b) d,
+        g .ensures .1 .1 ∙ ap (λ (y : Given). leaves (g .result) (nextBytes (y .next) (now (a .step))) (now (a .step))) d,
       ),
     )
 
@@ -89,11 +70,7 @@ next-on-spec =
     returns
     read-place-requires
     next-shown-requires
-    next-number-requires
+    write-given-requires
     same-length-2
-    returns-2
-    write-place-requires
-    write-next-requires
     same-length-3
-    same-length-4
-    returns-3)
+    returns-2)

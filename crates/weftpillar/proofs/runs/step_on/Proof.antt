@@ -1,10 +1,8 @@
-use Rattle.weftpillar.proofs.Calling.{refused-here, refused-next, none-given, refused-leaves, done-leaves}
-use Rattle.weftpillar.specs.Calls.{runFor, stepRows}
-use Rattle.weftpillar.specs.Answers.{answerNumber, leaves}
+use Rattle.weftpillar.proofs.Calling.{refused-last, refused-leaves}
+use Rattle.weftpillar.specs.Calls.{stepRows, runFor}
+use Rattle.weftpillar.specs.Answers.{leaves, answerNumber}
 use Rattle.run_bytes.specs.RunBytes.{runBytes}
 use Rattle.lines.specs.In.{stepBy}
-use borrow.Author.Tests.{not-true, not-false}
-use mathlib.Core.List.{[]}
 use Rattle.run.specs.Steps.{stepTested}
 use Rattle.run.specs.declared.Stepped.{Stepped}
 use Rattle.run.specs.declared.Step.{Step}
@@ -13,6 +11,7 @@ use Rattle.plan.specs.Refusals.{line-wrong, run-outside}
 use Rattle.laws.proofs.Rows.{first-here, first-next}
 use Rattle.laws.specs.Row.{given}
 use Rattle.plan.proofs.Sound.{sound}
+use borrow.Author.Tests.{not-true, not-false}
 use mathlib.Core.Bool.{true, false, not}
 use denote.Ref.{now}
 use native.Mathlib.Omega.{arith}
@@ -53,10 +52,10 @@ step-by-requires : tie.Need-step-by-requires
 step-by-requires c κs = search needs
 
 step-tested-requires : tie.Need-step-tested-requires
-step-tested-requires c κs = sound _ (c .before .before .before .before .before .before .before .before .before .before .pre .0)
+step-tested-requires c κs = sound _ (c .before .before .before .before .before .before .before .before .before .before .before .pre .0)
 
-answer-number-requires : tie.Need-answer-number-requires
-answer-number-requires c κs = search needs
+write-done-requires : tie.Need-write-done-requires
+write-done-requires c κs = (sound _ (c .before .before .before .before .before .before .before .before .before .before .before .before .pre .0) .nodes-high, c .before .before .before .before .before .before .before .before .before .before .before .before .pre .1)
 
 same-length-2 : tie.Need-same-length-2
 same-length-2 c = search needs
@@ -64,35 +63,17 @@ same-length-2 c = search needs
 returns-3 : tie.Need-returns-3
 unfolding stepRows
 returns-3 c =
-    let a = c .before .before .before .before .before .before .before .before .before .before .before .before .before .args in
-    let l = sym (c .before .before .before .before .before .before .before .before .before .before .before .is-letter .ensures) ∙ not-false (c .before .before .before .before .before .before .before .before .before .before .before .is-letter .result) (c .before .before .before .before .before .before .before .before .before .before .if1 .left) in
-    let w = sym (c .before .before .before .before .before .before .before .numbers-wrong .ensures) ∙ c .before .before .before .before .before .before .if2 .left in
-    let d : c .before .before .step-tested .result ≡ stepTested (a .plan) (runFor (a .plan) (now (a .run))) (stepBy (a .letter) (a .number)) =
-    c .before .before .step-tested .ensures
-    ∙ ap (λ (r : Run). stepTested (a .plan) r (c .before .before .before .step-by .result)) (c .before .before .before .before .read-run .ensures)
-    ∙ ap (λ (s : Step). stepTested (a .plan) (runFor (a .plan) (now (a .run))) s) (c .before .before .before .step-by .ensures) in
-    let m = c .before .answer-number .ensures ∙ ap (λ (x : Stepped). answerNumber (x .answer)) d in
-    (refused-here _ _ [] m (c .if3 .taken) ∙ sym (first-next (given line-wrong _) _ (ap not l) ∙ first-next (given run-outside _) _ w), refused-leaves _ _ _ _ refl (c .if3 .taken))
-
-write-run-requires : tie.Need-write-run-requires
-write-run-requires c κs = let s = sound _ (c .before .before .before .before .before .before .before .before .before .before .before .before .before .before .before .pre .0) in (s .nodes-high, omega arith)
-
-same-length-3 : tie.Need-same-length-3
-same-length-3 c = search needs
-
-returns-4 : tie.Need-returns-4
-unfolding stepRows
-returns-4 c =
-    let a = c .before .before .before .before .before .before .before .before .before .before .before .before .before .before .before .before .before .before .args in
-    let l = sym (c .before .before .before .before .before .before .before .before .before .before .before .before .before .before .before .before .is-letter .ensures) ∙ not-false (c .before .before .before .before .before .before .before .before .before .before .before .before .before .before .before .before .is-letter .result) (c .before .before .before .before .before .before .before .before .before .before .before .before .before .before .before .if1 .left) in
-    let w = sym (c .before .before .before .before .before .before .before .before .before .before .before .before .numbers-wrong .ensures) ∙ c .before .before .before .before .before .before .before .before .before .before .before .if2 .left in
-    let d : c .before .before .before .before .before .before .before .step-tested .result ≡ stepTested (a .plan) (runFor (a .plan) (now (a .run))) (stepBy (a .letter) (a .number)) =
-    c .before .before .before .before .before .before .before .step-tested .ensures
-    ∙ ap (λ (r : Run). stepTested (a .plan) r (c .before .before .before .before .before .before .before .before .step-by .result)) (c .before .before .before .before .before .before .before .before .before .read-run .ensures)
-    ∙ ap (λ (s : Step). stepTested (a .plan) (runFor (a .plan) (now (a .run))) s) (c .before .before .before .before .before .before .before .before .step-by .ensures) in
-    let m = c .before .before .before .before .before .before .answer-number .ensures ∙ ap (λ (x : Stepped). answerNumber (x .answer)) d in (
-      sym (first-next (given line-wrong _) _ (ap not l) ∙ first-next (given run-outside _) _ w ∙ refused-next _ _ [] m (c .before .before .before .before .before .if3 .left) ∙ none-given),
-      done-leaves 0 _ _ _ refl (c .before .before .write-run .ensures ∙ ap (λ (x : Stepped). runBytes (a .plan .nodes .0) (x .run) (now (a .run))) d),
+    let a = c .before .before .before .before .before .before .before .before .before .before .before .before .before .before .before .args in
+    let l = sym (c .before .before .before .before .before .before .before .before .before .before .before .before .before .is-letter .ensures) ∙ not-false (c .before .before .before .before .before .before .before .before .before .before .before .before .before .is-letter .result) (c .before .before .before .before .before .before .before .before .before .before .before .before .if1 .left) in
+    let w = sym (c .before .before .before .before .before .before .before .before .before .numbers-wrong .ensures) ∙ c .before .before .before .before .before .before .before .before .if2 .left in
+    let x : Stepped = stepTested (a .plan) (runFor (a .plan) (now (a .run))) (stepBy (a .letter) (a .number)) in
+    let d : c .before .before .before .step-tested .result ≡ x =
+    c .before .before .before .step-tested .ensures
+    ∙ ap (λ (r : Run). stepTested (a .plan) r (c .before .before .before .before .step-by .result)) (c .before .before .before .before .before .before .read-run .ensures)
+    ∙ ap (λ (s : Step). stepTested (a .plan) (runFor (a .plan) (now (a .run))) s) (c .before .before .before .before .step-by .ensures) in
+    let m = c .before .before .write-done .ensures .0 ∙ ap (λ (y : Stepped). answerNumber (y .answer)) d in (
+      m ∙ refused-last (answerNumber (x .answer)) ∙ sym (first-next (given line-wrong _) _ (ap not l) ∙ first-next (given run-outside _) _ w),
+      c .before .before .write-done .ensures .1 ∙ ap (λ (y : Stepped). leaves (c .before .before .write-done .result) (runBytes (a .plan .nodes .0) (y .run) (now (a .run))) (now (a .run))) d,
     )
 
 pub step-on-spec : {M : Type 1} → statement M
@@ -108,9 +89,6 @@ step-on-spec =
     read-run-requires
     step-by-requires
     step-tested-requires
-    answer-number-requires
+    write-done-requires
     same-length-2
-    returns-3
-    write-run-requires
-    same-length-3
-    returns-4)
+    returns-3)
