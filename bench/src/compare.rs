@@ -138,9 +138,9 @@ pub struct Comparison<'a> {
     pub answers: [[u64; 256]; KINDS.len()],
     /// Answers to single steps inside a row, which the row's own answer doesn't tell.
     pub in_rows: [u64; 256],
-    /// Verdicts by outcome, and how many shown runs were followed to their end.
+    /// Verdicts by outcome, and shown runs that were followed to their end, by the rule that fails.
     pub outcomes: [u64; 4],
-    pub whole_runs: u64,
+    pub whole_runs: [u64; 4],
 }
 
 impl<'a> Comparison<'a> {
@@ -152,7 +152,7 @@ impl<'a> Comparison<'a> {
             answers: [[0; 256]; KINDS.len()],
             in_rows: [0; 256],
             outcomes: [0; 4],
-            whole_runs: 0,
+            whole_runs: [0; 4],
         }
     }
 
@@ -286,11 +286,13 @@ impl<'a> Comparison<'a> {
 
     /// A shown run from its fresh place to its end: each step that is given is also asked as a step and must do the same.
     fn shown_runs(&mut self, random: &mut Random) -> Result<(), String> {
-        let size = random.pick(&[TINY, TINY, TINY, SMALL]);
+        let size = random.pick(&[TINY, TINY, TINY, TINY, TINY, SMALL, SMALL, CROWDED]);
         let file = good_numbers(random, size).file();
+        let judged = self.same(&Input::new(Call::Judge, &file, &[], &[0; VERDICT_BYTES]))?.1;
+        let rule = judged.out.bytes()[0] as usize;
         let filled = random.bytes(PLACE_BYTES);
         let mut state = self.same(&Input::new(Call::FreshPlace, &[], &filled, &[]))?.1.state.bytes().to_vec();
-        let mut steps = 0;
+        let mut steps = 0u64;
         loop {
             let out = random.bytes(STEP_BYTES);
             let (answer, after) = self.same(&Input::new(Call::Next, &file, &state, &out))?;
@@ -311,10 +313,10 @@ impl<'a> Comparison<'a> {
         }
         let out = random.bytes(OUT_BYTES);
         let (_, after) = self.same(&Input::new(Call::OutOfStep, &file, &state[..RUN_BYTES], &out))?;
-        if (after.out.bytes()[0] == 1) != (steps > 0) {
-            return Err(format!("a shown run of {steps} steps ends\n{after}"));
+        if (after.out.bytes()[0] == 1) != (rule > 0) || (steps > 0) != (rule > 0) {
+            return Err(format!("a plan with outcome {rule} has a shown run of {steps} steps, which ends\n{after}"));
         }
-        self.whole_runs += (steps > 0) as u64;
+        self.whole_runs[rule] += 1;
         Ok(())
     }
 

@@ -84,6 +84,7 @@ pub struct Size {
 }
 
 pub const SMALL: Size = Size { nodes: 8, frame: 24, ticks: 14 };
+pub const CROWDED: Size = Size { nodes: 32, frame: 40, ticks: 7 };
 pub const TINY: Size = Size { nodes: 5, frame: 8, ticks: 8 };
 
 pub fn some_size(random: &mut Random) -> Size {

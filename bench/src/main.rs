@@ -53,7 +53,7 @@ fn print_answers(comparison: &Comparison) {
         comparison.outcomes[0],
         &comparison.outcomes[1..]
     );
-    println!("shown runs followed to their end: {}", comparison.whole_runs);
+    println!("shown runs followed to their end, for rules 1, 2, 3: {:?}", &comparison.whole_runs[1..]);
     let expected = (1..=17).chain(19..=22).chain([0, 254, 255]);
     let missing: Vec<usize> = expected.filter(|&n| seen[n] == 0).collect();
     println!("{total} inputs compared, no difference; answers that never came: {missing:?}");

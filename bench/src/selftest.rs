@@ -159,7 +159,7 @@ fn shown_twice(random: &mut Random) -> Result<(), String> {
     let (mut runs, mut steps) = (0u64, 0u64);
     let mut by_rule = [0u64; 4];
     while runs < 10_000 {
-        let size = random.pick(&[TINY, TINY, SMALL, Size { nodes: 32, frame: 40, ticks: 10 }]);
+        let size = random.pick(&[TINY, TINY, SMALL, CROWDED]);
         let plan = good_plan(random, size);
         let Some(parts) = plan.parts() else { continue };
         let mut place = Place::fresh();
