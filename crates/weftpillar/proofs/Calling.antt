@@ -15,20 +15,20 @@ use Rattle.run.specs.declared.Reckoned.{Reckoned}
 use Rattle.run.specs.declared.Reckoned.the-variants as reckoned
 use Rattle.lines.specs.declared.Line.{Line}
 use Rattle.lines.specs.declared.Line.the-variants as line
-use Rattle.weftpillar.specs.Answers.{another-length, reckonedNumber, lineNumber, fileNumber, planIn, refusedBy, answered, leaves}
+use Rattle.weftpillar.specs.Answers.{another-length, reckonedNumber, lineNumber, fileRefusal, planIn, refusedBy, answered, leaves}
 use Rattle.run.specs.State.{inRange}
 use Rattle.weftpillar.specs.Calls.{runFor, runWrong, runOutside}
 use Rattle.weftpillar.specs.Forms.{ticksBytes, lineBytes}
 
 -- 1 to 9 let a plan through whose file is taken
-pub taken-passes : (f : List ℕ) → fileNumber f ≡ 0 → planNumber (planIn f) ≡ 0
-unfolding fileNumber planIn file.readOf file.takenOf
+pub taken-passes : (f : List ℕ) → fileRefusal f ≡ 0 → planNumber (planIn f) ≡ 0
+unfolding fileRefusal planIn file.readOf file.takenOf
 taken-passes f h = go (eqb (file.fileNumber f) 0) refl (eqb (planNumber (file.planOf f)) 0) refl
   where
     go : (a : Bool) → eqb (file.fileNumber f) 0 ≡ a → (b : Bool) → eqb (planNumber (file.planOf f)) 0 ≡ b → planNumber (planIn f) ≡ 0
     go true p true q = rw (planIn, p, q) (eqb-true _ 0 q)
-    go true p false q = let z : planNumber (file.planOf f) ≡ 0 = rw (fileNumber, p, q) at h in absurd (eqb-false _ 0 q z)
-    go false p b q = let z : file.fileNumber f ≡ 0 = rw (fileNumber, p) at h in absurd (eqb-false _ 0 p z)
+    go true p false q = let z : planNumber (file.planOf f) ≡ 0 = rw (fileRefusal, p, q) at h in absurd (eqb-false _ 0 q z)
+    go false p b q = let z : file.fileNumber f ≡ 0 = rw (fileRefusal, p) at h in absurd (eqb-false _ 0 p z)
 
 -- an answer that is a row: it is the first row's number, or the rest's
 pub refused-here : (n m : ℕ) (rows : List Row) → n ≡ m → (n ≡ 0 → ⊥) → n ≡ firstOf (refusedBy m ∷ rows)
@@ -56,14 +56,14 @@ module _ (wrong : Bool) (f : List ℕ) (rows : Plan → List Row) where
   unfolding answered
   by-length w = first-here (given another-length wrong) _ w
 
-  pub by-file : wrong ≡ false → (n : ℕ) → n ≡ fileNumber f → (n ≡ 0 → ⊥) → n ≡ answered wrong f rows
+  pub by-file : wrong ≡ false → (n : ℕ) → n ≡ fileRefusal f → (n ≡ 0 → ⊥) → n ≡ answered wrong f rows
   unfolding answered
   by-file w n e z =
-      refused-here n (fileNumber f) (rows (planIn f)) e z ∙ sym (first-next (given another-length wrong) _ w)
+      refused-here n (fileRefusal f) (rows (planIn f)) e z ∙ sym (first-next (given another-length wrong) _ w)
 
-  pub by-rows : wrong ≡ false → fileNumber f ≡ 0 → firstOf (rows (planIn f)) ≡ answered wrong f rows
+  pub by-rows : wrong ≡ false → fileRefusal f ≡ 0 → firstOf (rows (planIn f)) ≡ answered wrong f rows
   unfolding answered
-  by-rows w e = sym (refused-next (fileNumber f) (fileNumber f) (rows (planIn f)) refl e) ∙ sym (first-next (given another-length wrong) _ w)
+  by-rows w e = sym (refused-next (fileRefusal f) (fileRefusal f) (rows (planIn f)) refl e) ∙ sym (first-next (given another-length wrong) _ w)
 
 -- a refused call leaves a buffer as it was, a done call what it wrote
 pub refused-leaves : (n answer : ℕ) (written before : List ℕ) → n ≡ answer → (n ≡ 0 → ⊥) → before ≡ leaves answer written before

@@ -1,5 +1,5 @@
 -- Bytes written one part after the other, and buffers written whole.
-use Prim.Native.Nat.{ℕ, zero, suc, _+_}
+use Prim.Native.Nat.{ℕ, suc, _+_}
 use mathlib.Core.Path.{_≡_, refl, sym, ap, _∙_}
 use mathlib.Core.List.{List, [], _∷_, _++_}
 use native.Mathlib.Omega.{arith}
@@ -7,7 +7,7 @@ use lib.ListN.{length, set}
 use lib.Seq.{sets}
 use Rattle.rules.specs.declared.Sides.{Sides}
 use Rattle.rules.specs.declared.Verdict.{Verdict}
-use Rattle.run_bytes.specs.Numbers.{be16Bytes, be64Bytes}
+use Rattle.run_bytes.specs.Numbers.{be16Bytes}
 use Rattle.weftpillar.specs.Forms.{outcomeNumber, sidesBytes, verdictBytes}
 
 module _ {A : Type 0} where

@@ -49,8 +49,8 @@ lineNumber (line.Asks s) = 0
 lineNumber (line.Refused n) = n
 
 -- The reader's refusal of a plan file, 0 where it takes it; and the plan in a file that it takes.
-unfoldable pub fileNumber : List ℕ → ℕ
-fileNumber file = readNumber (readOf file .answer)
+unfoldable pub fileRefusal : List ℕ → ℕ
+fileRefusal file = readNumber (readOf file .answer)
 
 unfoldable pub planIn : List ℕ → Plan
 planIn file = readOf file .plan
@@ -65,7 +65,7 @@ otherThan n bytes = not (eqb (length bytes) n)
 
 -- The answer of a call on a plan file: 255 by the lengths, then the reader's refusal, then the first row that the plan in the file gives; 0 where none is given.
 unfoldable pub answered : (lengths-wrong : Bool) → (file : List ℕ) → (Plan → List Row) → ℕ
-answered wrong file rows = firstOf (given another-length wrong ∷ refusedBy (fileNumber file) ∷ rows (planIn file))
+answered wrong file rows = firstOf (given another-length wrong ∷ refusedBy (fileRefusal file) ∷ rows (planIn file))
 
 -- What a call leaves in a lent buffer: what it writes where it answers 0, else what was there.
 unfoldable pub leaves : (answer : ℕ) → (written before : List ℕ) → List ℕ

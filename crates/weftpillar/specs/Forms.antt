@@ -1,7 +1,7 @@
 -- What calls write, as bytes; numbers are big-endian. A form of a refusal is the buffer as it was.
 use Prim.Native.Nat.{ℕ}
 use mathlib.Core.Bool.{Bool, cond, _||_}
-use mathlib.Core.List.{List, [], _∷_, _++_}
+use mathlib.Core.List.{List, _∷_, _++_}
 use lib.ListN.{set}
 use lib.Dec.{eqb, ltb}
 use Rattle.plan_file.specs.File.{byteAt}

@@ -10,25 +10,25 @@ mod verdicts;
 ghost use mathlib.Core.Path.{_≡_};
 ghost use Rattle.weftpillar.specs.Calls.{
   judgeAnswer,
-  judgeVerdict,
+  judgeLeaves,
   freshAnswer,
-  freshBytes,
+  freshLeaves,
   stepAnswer,
-  stepRun,
+  stepLeaves,
   stepsAnswer,
-  stepsRun,
-  stepsAnswers,
+  stepsLeavesRun,
+  stepsLeavesAnswers,
   apartAnswer,
   apartLeaves,
   reckonAnswer,
-  reckonTicks,
+  reckonLeaves,
   lineAnswer,
-  lineStep,
+  lineLeaves,
   freshPlaceAnswer,
-  freshPlaceBytes,
+  freshPlaceLeaves,
   nextAnswer,
-  nextPlace,
-  nextStep,
+  nextLeavesPlace,
+  nextLeavesStep,
 };
 use answers::line_number;
 use forms::write_line;
@@ -53,7 +53,7 @@ use verdicts::write_verdict;
 #[no_mangle]
 pub extern "C" fn weftpillar_judge(plan: &[u8], verdict: &mut [u8]) -> u8
     ensures { λ r. ⌜ r ≡ judgeAnswer (now (plan .entry)) (now (verdict .entry)) ⌝ }
-    ensures { λ _. ⌜ now (verdict .exit) ≡ judgeVerdict (now (plan .entry)) (now (verdict .entry)) ⌝ }
+    ensures { λ _. ⌜ now (verdict .exit) ≡ judgeLeaves (now (plan .entry)) (now (verdict .entry)) ⌝ }
 {
     if verdict.len() != 51 {
         return ANOTHER_LENGTH;
@@ -70,7 +70,7 @@ pub extern "C" fn weftpillar_judge(plan: &[u8], verdict: &mut [u8]) -> u8
 #[no_mangle]
 pub extern "C" fn weftpillar_fresh(run: &mut [u8]) -> u8
     ensures { λ r. ⌜ r ≡ freshAnswer (now (run .entry)) ⌝ }
-    ensures { λ _. ⌜ now (run .exit) ≡ freshBytes (now (run .entry)) ⌝ }
+    ensures { λ _. ⌜ now (run .exit) ≡ freshLeaves (now (run .entry)) ⌝ }
 {
     if run.len() != 291 {
         return ANOTHER_LENGTH;
@@ -83,7 +83,7 @@ pub extern "C" fn weftpillar_fresh(run: &mut [u8]) -> u8
 #[no_mangle]
 pub extern "C" fn weftpillar_step(plan: &[u8], run: &mut [u8], letter: u8, number: u32) -> u8
     ensures { λ r. ⌜ r ≡ stepAnswer (now (plan .entry)) (now (run .entry)) letter number ⌝ }
-    ensures { λ _. ⌜ now (run .exit) ≡ stepRun (now (plan .entry)) (now (run .entry)) letter number ⌝ }
+    ensures { λ _. ⌜ now (run .exit) ≡ stepLeaves (now (plan .entry)) (now (run .entry)) letter number ⌝ }
 {
     if run.len() != 291 {
         return ANOTHER_LENGTH;
@@ -104,8 +104,8 @@ pub extern "C" fn weftpillar_steps(
     answers: &mut [u8],
 ) -> u8
     ensures { λ r. ⌜ r ≡ stepsAnswer (now (plan .entry)) (now (run .entry)) (now (steps .entry)) (now (answers .entry)) ⌝ }
-    ensures { λ _. ⌜ now (run .exit) ≡ stepsRun (now (plan .entry)) (now (run .entry)) (now (steps .entry)) (now (answers .entry)) ⌝ }
-    ensures { λ _. ⌜ now (answers .exit) ≡ stepsAnswers (now (plan .entry)) (now (run .entry)) (now (steps .entry)) (now (answers .entry)) ⌝ }
+    ensures { λ _. ⌜ now (run .exit) ≡ stepsLeavesRun (now (plan .entry)) (now (run .entry)) (now (steps .entry)) (now (answers .entry)) ⌝ }
+    ensures { λ _. ⌜ now (answers .exit) ≡ stepsLeavesAnswers (now (plan .entry)) (now (run .entry)) (now (steps .entry)) (now (answers .entry)) ⌝ }
 {
     if run.len() != 291 {
         return ANOTHER_LENGTH;
@@ -140,7 +140,7 @@ pub extern "C" fn weftpillar_out_of_step(plan: &[u8], run: &[u8], answer: &mut [
 #[no_mangle]
 pub extern "C" fn weftpillar_reckon(plan: &[u8], run: &[u8], node: u32, ticks: &mut [u8]) -> u8
     ensures { λ r. ⌜ r ≡ reckonAnswer (now (plan .entry)) (now (run .entry)) node (now (ticks .entry)) ⌝ }
-    ensures { λ _. ⌜ now (ticks .exit) ≡ reckonTicks (now (plan .entry)) (now (run .entry)) node (now (ticks .entry)) ⌝ }
+    ensures { λ _. ⌜ now (ticks .exit) ≡ reckonLeaves (now (plan .entry)) (now (run .entry)) node (now (ticks .entry)) ⌝ }
 {
     if lengths_differ(run.len(), 291, ticks.len(), 4) {
         return ANOTHER_LENGTH;
@@ -156,7 +156,7 @@ pub extern "C" fn weftpillar_reckon(plan: &[u8], run: &[u8], node: u32, ticks: &
 #[no_mangle]
 pub extern "C" fn weftpillar_line(line: &[u8], step: &mut [u8]) -> u8
     ensures { λ r. ⌜ r ≡ lineAnswer (now (line .entry)) (now (step .entry)) ⌝ }
-    ensures { λ _. ⌜ now (step .exit) ≡ lineStep (now (line .entry)) (now (step .entry)) ⌝ }
+    ensures { λ _. ⌜ now (step .exit) ≡ lineLeaves (now (line .entry)) (now (step .entry)) ⌝ }
 {
     if step.len() != 5 {
         return ANOTHER_LENGTH;
@@ -170,7 +170,7 @@ pub extern "C" fn weftpillar_line(line: &[u8], step: &mut [u8]) -> u8
 #[no_mangle]
 pub extern "C" fn weftpillar_fresh_place(place: &mut [u8]) -> u8
     ensures { λ r. ⌜ r ≡ freshPlaceAnswer (now (place .entry)) ⌝ }
-    ensures { λ _. ⌜ now (place .exit) ≡ freshPlaceBytes (now (place .entry)) ⌝ }
+    ensures { λ _. ⌜ now (place .exit) ≡ freshPlaceLeaves (now (place .entry)) ⌝ }
 {
     if place.len() != 292 {
         return ANOTHER_LENGTH;
@@ -183,8 +183,8 @@ pub extern "C" fn weftpillar_fresh_place(place: &mut [u8]) -> u8
 #[no_mangle]
 pub extern "C" fn weftpillar_next(plan: &[u8], place: &mut [u8], step: &mut [u8]) -> u8
     ensures { λ r. ⌜ r ≡ nextAnswer (now (plan .entry)) (now (place .entry)) (now (step .entry)) ⌝ }
-    ensures { λ _. ⌜ now (place .exit) ≡ nextPlace (now (plan .entry)) (now (place .entry)) (now (step .entry)) ⌝ }
-    ensures { λ _. ⌜ now (step .exit) ≡ nextStep (now (plan .entry)) (now (place .entry)) (now (step .entry)) ⌝ }
+    ensures { λ _. ⌜ now (place .exit) ≡ nextLeavesPlace (now (plan .entry)) (now (place .entry)) (now (step .entry)) ⌝ }
+    ensures { λ _. ⌜ now (step .exit) ≡ nextLeavesStep (now (plan .entry)) (now (place .entry)) (now (step .entry)) ⌝ }
 {
     if lengths_differ(place.len(), 292, step.len(), 5) {
         return ANOTHER_LENGTH;

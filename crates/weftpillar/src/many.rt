@@ -1,7 +1,7 @@
 // Many steps by bytes, 5 each, one after the other.
 ghost use mathlib.Core.Path.{_≡_};
 ghost use mathlib.Core.Bool.{true, not};
-ghost use Prim.Native.Nat.{_*_, _≤_};
+ghost use Prim.Native.Nat.{_*_};
 ghost use lib.ListN.{length};
 ghost use lib.Dec.{eqb};
 ghost use Rattle.laws.specs.Row.{firstOf};
@@ -9,7 +9,7 @@ ghost use Rattle.plan.specs.Tested.{planNumber, Sound};
 ghost use Rattle.run.specs.State.{inRange};
 ghost use Rattle.weftpillar.specs.Answers.{leaves};
 ghost use Rattle.weftpillar.specs.Many.{askedOf, afterAsked, answersBytes};
-ghost use Rattle.weftpillar.specs.Calls.{runFor, stepsRows, stepsWrites};
+ghost use Rattle.weftpillar.specs.Calls.{runFor, runTests, stepsWrites};
 use crate::answers::answer_number;
 use crate::runs::run_outside;
 use lines::is_letter;
@@ -75,7 +75,7 @@ pub fn steps_on(plan: Plan, run: &mut [u8], steps: &[u8], answers: &mut [u8]) ->
     requires { ⌜ planNumber plan ≡ 0 ⌝ }
     requires { ⌜ length (now run) ≡ 291 ⌝ }
     requires { ⌜ length (now steps) ≡ 5 * length (now answers) ⌝ }
-    ensures { λ r. ⌜ r ≡ firstOf (stepsRows plan (now (run .entry))) ⌝ }
+    ensures { λ r. ⌜ r ≡ firstOf (runTests plan (now (run .entry))) ⌝ }
     ensures { λ r. ⌜ now (run .exit) ≡ leaves r (stepsWrites plan (now (run .entry)) (now (steps .entry)) (length (now (answers .entry)))) (now (run .entry)) ⌝ }
     ensures { λ r. ⌜ now (answers .exit) ≡ leaves r (answersBytes plan (now (steps .entry)) (length (now (answers .entry))) (runFor plan (now (run .entry))) (now (answers .entry))) (now (answers .entry)) ⌝ }
 {

@@ -6,7 +6,7 @@ ghost use Rattle.laws.specs.Row.{firstOf};
 ghost use Rattle.plan.specs.Tested.{planNumber};
 ghost use Rattle.weftpillar.specs.Answers.{nextNumber, leaves};
 ghost use Rattle.weftpillar.specs.Forms.{markByte, markIn, placeIn, placeBytes, placeWrong, nextBytes};
-ghost use Rattle.weftpillar.specs.Calls.{nextRows, nextPlaceWrites, nextStepWrites};
+ghost use Rattle.weftpillar.specs.Calls.{nextTests, nextPlaceWrites, nextStepWrites};
 use crate::answers::next_number;
 use crate::forms::write_next;
 use plan::Plan;
@@ -96,7 +96,7 @@ pub fn next_on(plan: Plan, place: &mut [u8], step: &mut [u8]) -> u8
     requires { ⌜ planNumber plan ≡ 0 ⌝ }
     requires { ⌜ length (now place) ≡ 292 ⌝ }
     requires { ⌜ length (now step) ≡ 5 ⌝ }
-    ensures { λ r. ⌜ r ≡ firstOf (nextRows plan (now (place .entry))) ⌝ }
+    ensures { λ r. ⌜ r ≡ firstOf (nextTests plan (now (place .entry))) ⌝ }
     ensures { λ r. ⌜ now (place .exit) ≡ leaves r (nextPlaceWrites plan (now (place .entry))) (now (place .entry)) ⌝ }
     ensures { λ r. ⌜ now (step .exit) ≡ leaves r (nextStepWrites plan (now (place .entry)) (now (step .entry))) (now (step .entry)) ⌝ }
 {

@@ -8,7 +8,7 @@ ghost use Rattle.run.specs.State.{apartOf};
 ghost use Rattle.run_bytes.specs.RunBytes.{runBytes};
 ghost use Rattle.weftpillar.specs.Answers.{answerNumber, leaves};
 ghost use Rattle.weftpillar.specs.Forms.{apartBytes};
-ghost use Rattle.weftpillar.specs.Calls.{runFor, runOutside, stepRows, stepWrites, apartRows, reckonRows, reckonWrites};
+ghost use Rattle.weftpillar.specs.Calls.{runFor, runOutside, stepTests, stepWrites, runTests, reckonTests, reckonWrites};
 use crate::answers::answer_number;
 use crate::answers::reckoned_number;
 use crate::forms::write_apart;
@@ -61,7 +61,7 @@ fn write_done(run: &mut [u8], nodes: usize, done: Stepped) -> u8
 pub fn step_on(plan: Plan, run: &mut [u8], letter: u8, number: u32) -> u8
     requires { ⌜ planNumber plan ≡ 0 ⌝ }
     requires { ⌜ length (now run) ≡ 291 ⌝ }
-    ensures { λ r. ⌜ r ≡ firstOf (stepRows plan (now (run .entry)) letter number) ⌝ }
+    ensures { λ r. ⌜ r ≡ firstOf (stepTests plan (now (run .entry)) letter number) ⌝ }
     ensures { λ r. ⌜ now (run .exit) ≡ leaves r (stepWrites plan (now (run .entry)) letter number) (now (run .entry)) ⌝ }
 {
     if !is_letter(letter) {
@@ -83,7 +83,7 @@ pub fn apart_on(plan: Plan, run: &[u8], answer: &mut [u8]) -> u8
     requires { ⌜ planNumber plan ≡ 0 ⌝ }
     requires { ⌜ length (now run) ≡ 291 ⌝ }
     requires { ⌜ length (now answer) ≡ 9 ⌝ }
-    ensures { λ r. ⌜ r ≡ firstOf (apartRows plan (now (run .entry))) ⌝ }
+    ensures { λ r. ⌜ r ≡ firstOf (runTests plan (now (run .entry))) ⌝ }
     ensures { λ r. ⌜ now (answer .exit) ≡ leaves r (apartBytes (apartOf plan (runFor plan (now (run .entry)))) (now (answer .entry))) (now (answer .entry)) ⌝ }
 {
     if run_outside(plan, run) {
@@ -98,7 +98,7 @@ pub fn reckon_on(plan: Plan, run: &[u8], node: u32, ticks: &mut [u8]) -> u8
     requires { ⌜ planNumber plan ≡ 0 ⌝ }
     requires { ⌜ length (now run) ≡ 291 ⌝ }
     requires { ⌜ length (now ticks) ≡ 4 ⌝ }
-    ensures { λ r. ⌜ r ≡ firstOf (reckonRows plan (now (run .entry)) node) ⌝ }
+    ensures { λ r. ⌜ r ≡ firstOf (reckonTests plan (now (run .entry)) node) ⌝ }
     ensures { λ r. ⌜ now (ticks .exit) ≡ leaves r (reckonWrites plan (now (run .entry)) node (now (ticks .entry))) (now (ticks .entry)) ⌝ }
 {
     let nodes = plan.nodes.0 as usize;

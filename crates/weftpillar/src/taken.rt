@@ -3,7 +3,7 @@ ghost use mathlib.Core.Path.{_≡_};
 ghost use mathlib.Core.Bool.{not, _||_};
 ghost use lib.Dec.{eqb};
 ghost use Rattle.plan.specs.Tested.{planNumber};
-ghost use Rattle.weftpillar.specs.Answers.{readNumber, fileNumber, planIn};
+ghost use Rattle.weftpillar.specs.Answers.{readNumber, fileRefusal, planIn};
 use plan::Plan;
 use plan_file::Read;
 use plan_file::read_plan;
@@ -37,7 +37,7 @@ fn read_number(answer: Read) -> u8
 }
 
 pub fn taken_from(file: &[u8]) -> Taken
-    ensures { λ r. ⌜ (r .number ≡ fileNumber (now (file .entry))) × (r .plan ≡ planIn (now (file .entry))) × (r .number ≡ 0 → planNumber (r .plan) ≡ 0) ⌝ }
+    ensures { λ r. ⌜ (r .number ≡ fileRefusal (now (file .entry))) × (r .plan ≡ planIn (now (file .entry))) × (r .number ≡ 0 → planNumber (r .plan) ≡ 0) ⌝ }
 {
     let read = read_plan(file);
     let answer = read.answer;

@@ -1,21 +1,21 @@
-use Rattle.weftpillar.proofs.Calling.{none-given, refused-leaves, done-leaves}
-use Rattle.weftpillar.specs.Calls.{freshAnswer, freshBytes}
-use Rattle.weftpillar.specs.Answers.{leaves, another-length}
-use Rattle.run_bytes.specs.RunBytes.{runBytes}
-use Rattle.run.specs.declared.Run.{Run}
+use mathlib.Core.Bool.{not}
+use mathlib.Core.Path.{_≡_, sym, ap, _∙_}
+use native.Mathlib.Omega.{arith}
+use borrow.Author.Needs.{needs}
+use borrow.Author.Tests.{eq-eqb, ne-eqb}
+use denote.Ref.{now}
 use Rattle.laws.proofs.Rows.{first-here, first-next}
 use Rattle.laws.specs.Row.{given}
-use borrow.Author.Tests.{eq-eqb, ne-eqb}
-use mathlib.Core.Bool.{not}
-use denote.Ref.{now}
-use native.Mathlib.Omega.{arith}
-use mathlib.Core.Path.{_≡_, sym, ap, _∙_}
-use borrow.Author.Needs.{needs}
+use Rattle.run.specs.declared.Run.{Run}
+use Rattle.run_bytes.specs.RunBytes.{runBytes}
+use Rattle.weftpillar.specs.Answers.{another-length}
+use Rattle.weftpillar.specs.Calls.{freshAnswer, freshLeaves}
+use Rattle.weftpillar.proofs.Calling.{none-given, refused-leaves, done-leaves}
 use Rattle.weftpillar.proofs.weftpillar_fresh.Statement.{statement}
 use Rattle.weftpillar.proofs.weftpillar_fresh.Tie as tie
 
 returns : tie.Need-returns
-unfolding freshAnswer freshBytes
+unfolding freshAnswer freshLeaves
 returns c =
     let e : 255 ≡ freshAnswer (now (c .before .before .args .run)) = first-here (given another-length _) _ (ap not (ne-eqb _ 291 (c .if1 .taken))) in
     (e, refused-leaves 255 _ _ _ e (λ z. omega arith))
@@ -30,7 +30,7 @@ same-length : tie.Need-same-length
 same-length c = search needs
 
 returns-2 : tie.Need-returns-2
-unfolding freshAnswer freshBytes
+unfolding freshAnswer freshLeaves
 returns-2 c =
     let a = c .before .before .before .before .before .before .before .args in
     let e : 0 ≡ freshAnswer (now (a .run)) = sym (first-next (given another-length _) _ (ap not (eq-eqb _ 291 (c .before .before .before .before .before .if1 .left))) ∙ none-given) in

@@ -1,22 +1,21 @@
-use Rattle.weftpillar.specs.Calls.{freshPlaceAnswer, freshPlaceBytes}
-use Rattle.shown.specs.Shown.{freshPlace}
-use Rattle.shown.specs.declared.Place.{Place}
-use Rattle.weftpillar.specs.Forms.{placeBytes}
-use Rattle.weftpillar.proofs.Calling.{none-given, refused-leaves, done-leaves}
-use Rattle.weftpillar.specs.Answers.{leaves, another-length}
+use mathlib.Core.Bool.{not}
+use mathlib.Core.Path.{_≡_, sym, ap, _∙_}
+use native.Mathlib.Omega.{arith}
+use borrow.Author.Needs.{needs}
+use borrow.Author.Tests.{eq-eqb, ne-eqb}
+use denote.Ref.{now}
 use Rattle.laws.proofs.Rows.{first-here, first-next}
 use Rattle.laws.specs.Row.{given}
-use borrow.Author.Tests.{eq-eqb, ne-eqb}
-use mathlib.Core.Bool.{not}
-use denote.Ref.{now}
-use native.Mathlib.Omega.{arith}
-use mathlib.Core.Path.{_≡_, sym, ap, _∙_}
-use borrow.Author.Needs.{needs}
+use Rattle.shown.specs.declared.Place.{Place}
+use Rattle.weftpillar.specs.Answers.{another-length}
+use Rattle.weftpillar.specs.Calls.{freshPlaceAnswer, freshPlaceLeaves}
+use Rattle.weftpillar.specs.Forms.{placeBytes}
+use Rattle.weftpillar.proofs.Calling.{none-given, refused-leaves, done-leaves}
 use Rattle.weftpillar.proofs.weftpillar_fresh_place.Statement.{statement}
 use Rattle.weftpillar.proofs.weftpillar_fresh_place.Tie as tie
 
 returns : tie.Need-returns
-unfolding freshPlaceAnswer freshPlaceBytes
+unfolding freshPlaceAnswer freshPlaceLeaves
 returns c =
     let e : 255 ≡ freshPlaceAnswer (now (c .before .before .args .place)) = first-here (given another-length _) _ (ap not (ne-eqb _ 292 (c .if1 .taken))) in
     (e, refused-leaves 255 _ _ _ e (λ z. omega arith))
@@ -31,7 +30,7 @@ same-length : tie.Need-same-length
 same-length c = search needs
 
 returns-2 : tie.Need-returns-2
-unfolding freshPlaceAnswer freshPlaceBytes
+unfolding freshPlaceAnswer freshPlaceLeaves
 returns-2 c =
     let a = c .before .before .before .before .before .before .before .args in
     let e : 0 ≡ freshPlaceAnswer (now (a .place)) = sym (first-next (given another-length _) _ (ap not (eq-eqb _ 292 (c .before .before .before .before .before .if1 .left))) ∙ none-given) in

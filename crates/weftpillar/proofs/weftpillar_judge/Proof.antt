@@ -1,19 +1,19 @@
-use Rattle.weftpillar.proofs.Calling.{by-length, by-file, by-rows, none-given, refused-leaves, done-leaves}
-use mathlib.Core.Path.{_≡_, sym, ap, _∙_}
-use Rattle.weftpillar.specs.Calls.{judgeAnswer, judgeVerdict}
-use Rattle.weftpillar.specs.Forms.{verdictBytes}
-use Rattle.rules.specs.Rules.{verdictOf}
-use borrow.Author.Tests.{eq-eqb, ne-eqb}
-use mathlib.Core.List.{[]}
 use mathlib.Core.Bool.{not}
-use denote.Ref.{now}
+use mathlib.Core.List.{[]}
+use mathlib.Core.Path.{_≡_, sym, ap, _∙_}
 use native.Mathlib.Omega.{arith}
 use borrow.Author.Needs.{needs}
+use borrow.Author.Tests.{eq-eqb, ne-eqb}
+use denote.Ref.{now}
+use Rattle.rules.specs.Rules.{verdictOf}
+use Rattle.weftpillar.specs.Calls.{judgeAnswer, judgeLeaves}
+use Rattle.weftpillar.specs.Forms.{verdictBytes}
+use Rattle.weftpillar.proofs.Calling.{by-length, by-file, by-rows, none-given, refused-leaves, done-leaves}
 use Rattle.weftpillar.proofs.weftpillar_judge.Statement.{statement}
 use Rattle.weftpillar.proofs.weftpillar_judge.Tie as tie
 
 returns : tie.Need-returns
-unfolding judgeAnswer judgeVerdict
+unfolding judgeAnswer judgeLeaves
 returns c =
     let a = c .before .before .before .args in
     let e : 255 ≡ judgeAnswer (now (a .plan)) (now (a .verdict)) = by-length _ _ _ (ap not (ne-eqb _ 51 (c .if1 .taken))) in
@@ -23,7 +23,7 @@ taken-from-requires : tie.Need-taken-from-requires
 taken-from-requires c κs = search needs
 
 returns-2 : tie.Need-returns-2
-unfolding judgeAnswer judgeVerdict
+unfolding judgeAnswer judgeLeaves
 returns-2 c =
     let a = c .before .before .before .before .before .before .args in
     let t = c .before .before .taken-from in
@@ -41,7 +41,7 @@ same-length : tie.Need-same-length
 same-length c = search needs
 
 returns-3 : tie.Need-returns-3
-unfolding judgeAnswer judgeVerdict
+unfolding judgeAnswer judgeLeaves
 returns-3 c =
     let a = c .before .before .before .before .before .before .before .before .before .before .before .args in
     let t = c .before .before .before .before .before .before .before .taken-from in

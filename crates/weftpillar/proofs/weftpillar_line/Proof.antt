@@ -1,24 +1,23 @@
-use Rattle.lines.specs.declared.Line.{Line}
-use Rattle.weftpillar.proofs.Calling.{refused-last, refused-leaves, line-leaves}
-use Rattle.weftpillar.specs.Calls.{lineAnswer, lineStep}
-use Rattle.weftpillar.specs.Answers.{leaves, lineNumber, another-length}
-use Rattle.weftpillar.specs.Forms.{lineBytes}
-use Rattle.lines.specs.In.{lineOf}
-use Rattle.run.specs.declared.Step.{Step}
+use Prim.Native.Nat.{ℕ}
+use mathlib.Core.Bool.{not}
+use mathlib.Core.Path.{_≡_, sym, ap, _∙_}
+use native.Mathlib.Omega.{arith}
+use borrow.Author.Needs.{needs}
+use borrow.Author.Tests.{eq-eqb, ne-eqb}
+use denote.Ref.{now}
 use Rattle.laws.proofs.Rows.{first-here, first-next}
 use Rattle.laws.specs.Row.{given}
-use borrow.Author.Tests.{eq-eqb, ne-eqb}
-use mathlib.Core.Bool.{not}
-use Prim.Native.Nat.{ℕ}
-use denote.Ref.{now}
-use native.Mathlib.Omega.{arith}
-use mathlib.Core.Path.{_≡_, sym, ap, _∙_}
-use borrow.Author.Needs.{needs}
+use Rattle.lines.specs.In.{lineOf}
+use Rattle.lines.specs.declared.Line.{Line}
+use Rattle.weftpillar.specs.Answers.{leaves, lineNumber, another-length}
+use Rattle.weftpillar.specs.Calls.{lineAnswer, lineLeaves}
+use Rattle.weftpillar.specs.Forms.{lineBytes}
+use Rattle.weftpillar.proofs.Calling.{refused-last, refused-leaves, line-leaves}
 use Rattle.weftpillar.proofs.weftpillar_line.Statement.{statement}
 use Rattle.weftpillar.proofs.weftpillar_line.Tie as tie
 
 returns : tie.Need-returns
-unfolding lineAnswer lineStep
+unfolding lineAnswer lineLeaves
 returns c =
     let a = c .before .before .before .args in
     let e : 255 ≡ lineAnswer (now (a .line)) (now (a .step)) = first-here (given another-length _) _ (ap not (ne-eqb _ 5 (c .if1 .taken))) in
@@ -37,7 +36,7 @@ same-length : tie.Need-same-length
 same-length c = search needs
 
 returns-2 : tie.Need-returns-2
-unfolding lineAnswer lineStep
+unfolding lineAnswer lineLeaves
 returns-2 c =
     let a = c .before .before .before .before .before .before .before .before .before .args in
     let b = now (a .step) in

@@ -1,15 +1,13 @@
-use Rattle.weftpillar.specs.Calls.{nextRows, nextPlaceWrites, nextStepWrites, nextAnswer, nextPlace, nextStep}
-use Rattle.shown.specs.declared.Place.{Place}
-use Rattle.weftpillar.proofs.Calling.{by-length, by-file, by-rows, refused-leaves, lengths-right}
-use Rattle.weftpillar.specs.Answers.{planIn, leaves}
-use Rattle.plan.specs.declared.Plan.{Plan}
-use Rattle.run.specs.declared.Step.{Step}
-use Rattle.laws.specs.Row.{firstOf}
 use Prim.Native.Nat.{ℕ}
-use denote.Ref.{now}
-use native.Mathlib.Omega.{arith}
 use mathlib.Core.Path.{_≡_, sym, ap, _∙_}
+use native.Mathlib.Omega.{arith}
 use borrow.Author.Needs.{needs}
+use denote.Ref.{now}
+use Rattle.laws.specs.Row.{firstOf}
+use Rattle.plan.specs.declared.Plan.{Plan}
+use Rattle.weftpillar.specs.Answers.{planIn, leaves}
+use Rattle.weftpillar.specs.Calls.{nextTests, nextPlaceWrites, nextStepWrites, nextAnswer, nextLeavesPlace, nextLeavesStep}
+use Rattle.weftpillar.proofs.Calling.{by-length, by-file, by-rows, refused-leaves, lengths-right}
 use Rattle.weftpillar.proofs.weftpillar_next.Statement.{statement}
 use Rattle.weftpillar.proofs.weftpillar_next.Tie as tie
 
@@ -17,7 +15,7 @@ lengths-differ-requires : tie.Need-lengths-differ-requires
 lengths-differ-requires c κs = search needs
 
 returns : tie.Need-returns
-unfolding nextAnswer nextPlace nextStep
+unfolding nextAnswer nextLeavesPlace nextLeavesStep
 returns c =
     let a = c .before .before .before .before .before .args in
     let e : 255 ≡ nextAnswer (now (a .plan)) (now (a .place)) (now (a .step)) = by-length _ _ _ (sym (c .before .lengths-differ .ensures) ∙ c .if1 .taken) in
@@ -27,7 +25,7 @@ taken-from-requires : tie.Need-taken-from-requires
 taken-from-requires c κs = search needs
 
 returns-2 : tie.Need-returns-2
-unfolding nextAnswer nextPlace nextStep
+unfolding nextAnswer nextLeavesPlace nextLeavesStep
 returns-2 c =
     let a = c .before .before .before .before .before .before .before .before .args in
     let t = c .before .before .taken-from in
@@ -44,7 +42,7 @@ same-length-2 : tie.Need-same-length-2
 same-length-2 c = search needs
 
 returns-3 : tie.Need-returns-3
-unfolding nextAnswer nextPlace nextStep
+unfolding nextAnswer nextLeavesPlace nextLeavesStep
 returns-3 c =
     let a = c .before .before .before .before .before .before .before .before .before .before .before .before .before .before .before .args in
     let t = c .before .before .before .before .before .before .before .before .before .taken-from in
@@ -54,8 +52,8 @@ returns-3 c =
     let P′ = planIn (now (a .plan)) in
     let e : d .result ≡ nextAnswer (now (a .plan)) (now (a .place)) (now (a .step)) =
     d .ensures .0
-    ∙ ap (λ (P : Plan). firstOf (nextRows P place)) (t .ensures .1)
-    ∙ by-rows _ _ (λ P. nextRows P place) (sym (c .before .before .before .before .before .before .before .before .before .before .before .lengths-differ .ensures) ∙ c .before .before .before .before .before .before .before .before .before .before .if1 .left) (sym (t .ensures .0) ∙ c .before .before .before .before .before .before .before .if2 .left) in (
+    ∙ ap (λ (P : Plan). firstOf (nextTests P place)) (t .ensures .1)
+    ∙ by-rows _ _ (λ P. nextTests P place) (sym (c .before .before .before .before .before .before .before .before .before .before .before .lengths-differ .ensures) ∙ c .before .before .before .before .before .before .before .before .before .before .if1 .left) (sym (t .ensures .0) ∙ c .before .before .before .before .before .before .before .if2 .left) in (
       e,
       (
         d .ensures .1 .0 ∙ ap (λ (P : Plan). leaves (d .result) (nextPlaceWrites P place) place) (t .ensures .1) ∙ ap (λ (n : ℕ). leaves n (nextPlaceWrites P′ place) place) e,

@@ -1,15 +1,15 @@
-use Rattle.weftpillar.proofs.Calling.{by-length, by-file, by-rows, refused-leaves, lengths-right}
-use Rattle.weftpillar.specs.Calls.{apartAnswer, apartLeaves, apartRows, runFor}
-use Rattle.weftpillar.specs.Answers.{planIn, leaves}
-use Rattle.plan.specs.declared.Plan.{Plan}
-use Rattle.weftpillar.specs.Forms.{apartBytes}
-use Rattle.run.specs.State.{apartOf}
-use Rattle.laws.specs.Row.{firstOf}
 use Prim.Native.Nat.{ℕ}
-use denote.Ref.{now}
-use native.Mathlib.Omega.{arith}
 use mathlib.Core.Path.{_≡_, sym, ap, _∙_}
+use native.Mathlib.Omega.{arith}
 use borrow.Author.Needs.{needs}
+use denote.Ref.{now}
+use Rattle.laws.specs.Row.{firstOf}
+use Rattle.plan.specs.declared.Plan.{Plan}
+use Rattle.run.specs.State.{apartOf}
+use Rattle.weftpillar.specs.Answers.{planIn, leaves}
+use Rattle.weftpillar.specs.Calls.{apartAnswer, apartLeaves, runTests, runFor}
+use Rattle.weftpillar.specs.Forms.{apartBytes}
+use Rattle.weftpillar.proofs.Calling.{by-length, by-file, by-rows, refused-leaves, lengths-right}
 use Rattle.weftpillar.proofs.weftpillar_out_of_step.Statement.{statement}
 use Rattle.weftpillar.proofs.weftpillar_out_of_step.Tie as tie
 
@@ -49,8 +49,8 @@ returns-3 c =
     let d = c .before .before .apart-on in
     let e : d .result ≡ apartAnswer (now (a .plan)) (now (a .run)) (now (a .answer)) =
     d .ensures .0
-    ∙ ap (λ (P : Plan). firstOf (apartRows P (now (a .run)))) (t .ensures .1)
-    ∙ by-rows _ _ (λ P. apartRows P (now (a .run))) (sym (c .before .before .before .before .before .before .before .before .lengths-differ .ensures) ∙ c .before .before .before .before .before .before .before .if1 .left) (sym (t .ensures .0) ∙ c .before .before .before .before .if2 .left) in
+    ∙ ap (λ (P : Plan). firstOf (runTests P (now (a .run)))) (t .ensures .1)
+    ∙ by-rows _ _ (λ P. runTests P (now (a .run))) (sym (c .before .before .before .before .before .before .before .before .lengths-differ .ensures) ∙ c .before .before .before .before .before .before .before .if1 .left) (sym (t .ensures .0) ∙ c .before .before .before .before .if2 .left) in
     (e, d .ensures .1 ∙ ap (λ (P : Plan). leaves (d .result) (apartBytes (apartOf P (runFor P (now (a .run)))) (now (a .answer))) (now (a .answer))) (t .ensures .1) ∙ ap (λ (n : ℕ). leaves n (apartBytes (apartOf (planIn (now (a .plan))) (runFor (planIn (now (a .plan))) (now (a .run)))) (now (a .answer))) (now (a .answer))) e)
 
 pub weftpillar-out-of-step-spec : {M : Type 1} → statement M

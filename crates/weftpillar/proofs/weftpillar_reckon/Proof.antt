@@ -1,13 +1,13 @@
-use Rattle.weftpillar.proofs.Calling.{by-length, by-file, by-rows, refused-leaves, lengths-right}
-use Rattle.weftpillar.specs.Calls.{reckonAnswer, reckonTicks, reckonRows, reckonWrites}
-use Rattle.weftpillar.specs.Answers.{planIn, leaves}
-use Rattle.plan.specs.declared.Plan.{Plan}
-use Rattle.laws.specs.Row.{firstOf}
 use Prim.Native.Nat.{ℕ}
-use denote.Ref.{now}
-use native.Mathlib.Omega.{arith}
 use mathlib.Core.Path.{_≡_, sym, ap, _∙_}
+use native.Mathlib.Omega.{arith}
 use borrow.Author.Needs.{needs}
+use denote.Ref.{now}
+use Rattle.laws.specs.Row.{firstOf}
+use Rattle.plan.specs.declared.Plan.{Plan}
+use Rattle.weftpillar.specs.Answers.{planIn, leaves}
+use Rattle.weftpillar.specs.Calls.{reckonAnswer, reckonLeaves, reckonTests, reckonWrites}
+use Rattle.weftpillar.proofs.Calling.{by-length, by-file, by-rows, refused-leaves, lengths-right}
 use Rattle.weftpillar.proofs.weftpillar_reckon.Statement.{statement}
 use Rattle.weftpillar.proofs.weftpillar_reckon.Tie as tie
 
@@ -15,7 +15,7 @@ lengths-differ-requires : tie.Need-lengths-differ-requires
 lengths-differ-requires c κs = search needs
 
 returns : tie.Need-returns
-unfolding reckonAnswer reckonTicks
+unfolding reckonAnswer reckonLeaves
 returns c =
     let a = c .before .before .before .before .before .args in
     let e : 255 ≡ reckonAnswer (now (a .plan)) (now (a .run)) (a .node) (now (a .ticks)) = by-length _ _ _ (sym (c .before .lengths-differ .ensures) ∙ c .if1 .taken) in
@@ -25,7 +25,7 @@ taken-from-requires : tie.Need-taken-from-requires
 taken-from-requires c κs = search needs
 
 returns-2 : tie.Need-returns-2
-unfolding reckonAnswer reckonTicks
+unfolding reckonAnswer reckonLeaves
 returns-2 c =
     let a = c .before .before .before .before .before .before .before .before .args in
     let t = c .before .before .taken-from in
@@ -40,15 +40,15 @@ same-length : tie.Need-same-length
 same-length c = search needs
 
 returns-3 : tie.Need-returns-3
-unfolding reckonAnswer reckonTicks
+unfolding reckonAnswer reckonLeaves
 returns-3 c =
     let a = c .before .before .before .before .before .before .before .before .before .before .before .before .args in
     let t = c .before .before .before .before .before .before .taken-from in
     let d = c .before .before .reckon-on in
     let e : d .result ≡ reckonAnswer (now (a .plan)) (now (a .run)) (a .node) (now (a .ticks)) =
     d .ensures .0
-    ∙ ap (λ (P : Plan). firstOf (reckonRows P (now (a .run)) (a .node))) (t .ensures .1)
-    ∙ by-rows _ _ (λ P. reckonRows P (now (a .run)) (a .node)) (sym (c .before .before .before .before .before .before .before .before .lengths-differ .ensures) ∙ c .before .before .before .before .before .before .before .if1 .left) (sym (t .ensures .0) ∙ c .before .before .before .before .if2 .left) in
+    ∙ ap (λ (P : Plan). firstOf (reckonTests P (now (a .run)) (a .node))) (t .ensures .1)
+    ∙ by-rows _ _ (λ P. reckonTests P (now (a .run)) (a .node)) (sym (c .before .before .before .before .before .before .before .before .lengths-differ .ensures) ∙ c .before .before .before .before .before .before .before .if1 .left) (sym (t .ensures .0) ∙ c .before .before .before .before .if2 .left) in
     (e, d .ensures .1 ∙ ap (λ (P : Plan). leaves (d .result) (reckonWrites P (now (a .run)) (a .node) (now (a .ticks))) (now (a .ticks))) (t .ensures .1) ∙ ap (λ (n : ℕ). leaves n (reckonWrites (planIn (now (a .plan))) (now (a .run)) (a .node) (now (a .ticks))) (now (a .ticks))) e)
 
 pub weftpillar-reckon-spec : {M : Type 1} → statement M

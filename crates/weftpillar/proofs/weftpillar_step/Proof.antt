@@ -1,21 +1,20 @@
-use Rattle.weftpillar.proofs.Calling.{by-length, by-file, by-rows, refused-leaves}
-use Rattle.weftpillar.specs.Calls.{stepAnswer, stepRun, stepRows, stepWrites}
-use Rattle.weftpillar.specs.Answers.{planIn, leaves}
-use Rattle.plan.specs.declared.Plan.{Plan}
-use Rattle.run.specs.declared.Run.{Run}
-use Rattle.laws.specs.Row.{firstOf}
-use borrow.Author.Tests.{eq-eqb, ne-eqb}
-use mathlib.Core.Bool.{not}
 use Prim.Native.Nat.{ℕ}
-use denote.Ref.{now}
-use native.Mathlib.Omega.{arith}
+use mathlib.Core.Bool.{not}
 use mathlib.Core.Path.{_≡_, sym, ap, _∙_}
+use native.Mathlib.Omega.{arith}
 use borrow.Author.Needs.{needs}
+use borrow.Author.Tests.{eq-eqb, ne-eqb}
+use denote.Ref.{now}
+use Rattle.laws.specs.Row.{firstOf}
+use Rattle.plan.specs.declared.Plan.{Plan}
+use Rattle.weftpillar.specs.Answers.{planIn, leaves}
+use Rattle.weftpillar.specs.Calls.{stepAnswer, stepLeaves, stepTests, stepWrites}
+use Rattle.weftpillar.proofs.Calling.{by-length, by-file, by-rows, refused-leaves}
 use Rattle.weftpillar.proofs.weftpillar_step.Statement.{statement}
 use Rattle.weftpillar.proofs.weftpillar_step.Tie as tie
 
 returns : tie.Need-returns
-unfolding stepAnswer stepRun
+unfolding stepAnswer stepLeaves
 returns c =
     let a = c .before .before .before .args in
     let e : 255 ≡ stepAnswer (now (a .plan)) (now (a .run)) (a .letter) (a .number) = by-length _ _ _ (ap not (ne-eqb _ 291 (c .if1 .taken))) in
@@ -25,7 +24,7 @@ taken-from-requires : tie.Need-taken-from-requires
 taken-from-requires c κs = search needs
 
 returns-2 : tie.Need-returns-2
-unfolding stepAnswer stepRun
+unfolding stepAnswer stepLeaves
 returns-2 c =
     let a = c .before .before .before .before .before .before .args in
     let t = c .before .before .taken-from in
@@ -40,15 +39,15 @@ same-length : tie.Need-same-length
 same-length c = search needs
 
 returns-3 : tie.Need-returns-3
-unfolding stepAnswer stepRun
+unfolding stepAnswer stepLeaves
 returns-3 c =
     let a = c .before .before .before .before .before .before .before .before .before .before .args in
     let t = c .before .before .before .before .before .before .taken-from in
     let d = c .before .before .step-on in
     let e : d .result ≡ stepAnswer (now (a .plan)) (now (a .run)) (a .letter) (a .number) =
     d .ensures .0
-    ∙ ap (λ (P : Plan). firstOf (stepRows P (now (a .run)) (a .letter) (a .number))) (t .ensures .1)
-    ∙ by-rows _ _ (λ P. stepRows P (now (a .run)) (a .letter) (a .number)) (ap not (eq-eqb _ 291 (c .before .before .before .before .before .before .before .if1 .left))) (sym (t .ensures .0) ∙ c .before .before .before .before .if2 .left) in
+    ∙ ap (λ (P : Plan). firstOf (stepTests P (now (a .run)) (a .letter) (a .number))) (t .ensures .1)
+    ∙ by-rows _ _ (λ P. stepTests P (now (a .run)) (a .letter) (a .number)) (ap not (eq-eqb _ 291 (c .before .before .before .before .before .before .before .if1 .left))) (sym (t .ensures .0) ∙ c .before .before .before .before .if2 .left) in
     (e, d .ensures .1 ∙ ap (λ (P : Plan). leaves (d .result) (stepWrites P (now (a .run)) (a .letter) (a .number)) (now (a .run))) (t .ensures .1) ∙ ap (λ (n : ℕ). leaves n (stepWrites (planIn (now (a .plan))) (now (a .run)) (a .letter) (a .number)) (now (a .run))) e)
 
 pub weftpillar-step-spec : {M : Type 1} → statement M

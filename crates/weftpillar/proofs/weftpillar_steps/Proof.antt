@@ -1,25 +1,24 @@
-use borrow.Author.Tests.{eqb-true, eq-eqb, ne-eqb, not-true}
-use Rattle.weftpillar.specs.Calls.{stepsRows, stepsWrites, stepsAnswer, stepsRun, stepsAnswers, runFor}
-use Rattle.weftpillar.specs.Many.{answersBytes}
 use Prim.Native.Nat.{ℕ, _*_}
-use Rattle.weftpillar.proofs.Calling.{by-length, by-file, by-rows, refused-leaves}
-use Rattle.weftpillar.specs.Answers.{planIn, leaves}
-use Rattle.laws.proofs.Bools.{or-neither, or-true-left, or-true-right, false-not-true}
-use Rattle.laws.specs.Row.{firstOf}
+use mathlib.Core.Bool.{not}
 use mathlib.Core.Path.{_≡_, sym, ap, _∙_}
+use native.Mathlib.Omega.{arith}
 use lib.Dec.{eqb}
 use lib.ListN.{length}
-use Rattle.plan.specs.declared.Plan.{Plan}
-use Rattle.run.specs.declared.Run.{Run}
-use mathlib.Core.Bool.{true, false, not}
-use denote.Ref.{now}
-use native.Mathlib.Omega.{arith}
 use borrow.Author.Needs.{needs}
+use borrow.Author.Tests.{eqb-true, eq-eqb, ne-eqb}
+use denote.Ref.{now}
+use Rattle.laws.proofs.Bools.{or-neither, or-true-left, or-true-right, false-not-true}
+use Rattle.laws.specs.Row.{firstOf}
+use Rattle.plan.specs.declared.Plan.{Plan}
+use Rattle.weftpillar.specs.Answers.{planIn, leaves}
+use Rattle.weftpillar.specs.Calls.{runTests, stepsWrites, stepsAnswer, stepsLeavesRun, stepsLeavesAnswers, runFor}
+use Rattle.weftpillar.specs.Many.{answersBytes}
+use Rattle.weftpillar.proofs.Calling.{by-length, by-file, by-rows, refused-leaves}
 use Rattle.weftpillar.proofs.weftpillar_steps.Statement.{statement}
 use Rattle.weftpillar.proofs.weftpillar_steps.Tie as tie
 
 returns : tie.Need-returns
-unfolding stepsAnswer stepsRun stepsAnswers
+unfolding stepsAnswer stepsLeavesRun stepsLeavesAnswers
 returns c =
     let a = c .before .before .before .before .before .args in
     let e : 255 ≡ stepsAnswer (now (a .plan)) (now (a .run)) (now (a .steps)) (now (a .answers)) = by-length _ _ _ (or-true-left _ _ (ap not (ne-eqb _ 291 (c .if1 .taken)))) in
@@ -29,7 +28,7 @@ counts-differ-requires : tie.Need-counts-differ-requires
 counts-differ-requires c κs = search needs
 
 returns-2 : tie.Need-returns-2
-unfolding stepsAnswer stepsRun stepsAnswers
+unfolding stepsAnswer stepsLeavesRun stepsLeavesAnswers
 returns-2 c =
     let a = c .before .before .before .before .before .before .before .args in
     let e : 255 ≡ stepsAnswer (now (a .plan)) (now (a .run)) (now (a .steps)) (now (a .answers)) = by-length _ _ _ (or-true-right (not (eqb (length (now (a .run))) 291)) (not (eqb (length (now (a .steps))) (5 * length (now (a .answers))))) (sym (c .before .counts-differ .ensures) ∙ c .if2 .taken)) in
@@ -39,7 +38,7 @@ taken-from-requires : tie.Need-taken-from-requires
 taken-from-requires c κs = search needs
 
 returns-3 : tie.Need-returns-3
-unfolding stepsAnswer stepsRun stepsAnswers
+unfolding stepsAnswer stepsLeavesRun stepsLeavesAnswers
 returns-3 c =
     let a = c .before .before .before .before .before .before .before .before .before .before .args in
     let t = c .before .before .taken-from in
@@ -58,7 +57,7 @@ same-length-2 : tie.Need-same-length-2
 same-length-2 c = search needs
 
 returns-4 : tie.Need-returns-4
-unfolding stepsAnswer stepsRun stepsAnswers
+unfolding stepsAnswer stepsLeavesRun stepsLeavesAnswers
 returns-4 c =
     let a = c .before .before .before .before .before .before .before .before .before .before .before .before .before .before .before .before .before .args in
     let t = c .before .before .before .before .before .before .before .before .before .taken-from in
@@ -69,8 +68,8 @@ returns-4 c =
     let P′ = planIn (now (a .plan)) in
     let e : d .result ≡ stepsAnswer (now (a .plan)) (now (a .run)) (now (a .steps)) (now (a .answers)) =
     d .ensures .0
-    ∙ ap (λ (P : Plan). firstOf (stepsRows P run)) (t .ensures .1)
-    ∙ by-rows _ _ (λ P. stepsRows P run) (or-neither _ _ (ap not (eq-eqb _ 291 (c .before .before .before .before .before .before .before .before .before .before .before .before .if1 .left))) (sym (c .before .before .before .before .before .before .before .before .before .before .before .counts-differ .ensures) ∙ c .before .before .before .before .before .before .before .before .before .before .if2 .left)) (sym (t .ensures .0) ∙ c .before .before .before .before .before .before .before .if3 .left) in (
+    ∙ ap (λ (P : Plan). firstOf (runTests P run)) (t .ensures .1)
+    ∙ by-rows _ _ (λ P. runTests P run) (or-neither _ _ (ap not (eq-eqb _ 291 (c .before .before .before .before .before .before .before .before .before .before .before .before .if1 .left))) (sym (c .before .before .before .before .before .before .before .before .before .before .before .counts-differ .ensures) ∙ c .before .before .before .before .before .before .before .before .before .before .if2 .left)) (sym (t .ensures .0) ∙ c .before .before .before .before .before .before .before .if3 .left) in (
       e,
       (
         d .ensures .1 .0 ∙ ap (λ (P : Plan). leaves (d .result) (stepsWrites P run steps (length answers)) run) (t .ensures .1) ∙ ap (λ (n : ℕ). leaves n (stepsWrites P′ run steps (length answers)) run) e,

@@ -1,8 +1,8 @@
-use Rattle.weftpillar.specs.Forms.{apartBytes}
 use mathlib.Core.Path.{sym, ap, _∙_}
-use Rattle.run.specs.declared.Apart.{Apart}
-use denote.Ref.{now}
 use borrow.Author.Needs.{needs}
+use denote.Ref.{now}
+use Rattle.run.specs.declared.Apart.{Apart}
+use Rattle.weftpillar.specs.Forms.{apartBytes}
 use Rattle.weftpillar.proofs.forms.write_apart.Statement.{statement}
 use Rattle.weftpillar.proofs.forms.write_apart.Tie as tie
 

@@ -1,12 +1,11 @@
-use Rattle.weftpillar.proofs.Writing.{sets-whole}
+use Prim.Native.Nat.{ℕ}
 use mathlib.Core.List.{List, _∷_}
 use mathlib.Core.Path.{ap, _∙_}
-use Rattle.run_bytes.specs.Numbers.{be32Bytes}
 use lib.Seq.{sets}
-use lib.ListN.{set}
-use Prim.Native.Nat.{ℕ}
-use denote.Ref.{now}
 use borrow.Author.Needs.{needs}
+use denote.Ref.{now}
+use Rattle.run_bytes.specs.Numbers.{be32Bytes}
+use Rattle.weftpillar.proofs.Writing.{sets-whole}
 use Rattle.weftpillar.proofs.forms.write_letter.Statement.{statement}
 use Rattle.weftpillar.proofs.forms.write_letter.Tie as tie
 

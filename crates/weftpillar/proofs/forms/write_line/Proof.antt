@@ -1,8 +1,8 @@
-use Rattle.weftpillar.specs.Forms.{lineBytes}
 use mathlib.Core.Path.{sym, ap, _∙_}
-use Rattle.lines.specs.declared.Line.{Line}
-use denote.Ref.{now}
 use borrow.Author.Needs.{needs}
+use denote.Ref.{now}
+use Rattle.lines.specs.declared.Line.{Line}
+use Rattle.weftpillar.specs.Forms.{lineBytes}
 use Rattle.weftpillar.proofs.forms.write_line.Statement.{statement}
 use Rattle.weftpillar.proofs.forms.write_line.Tie as tie
 

@@ -1,8 +1,8 @@
-use Rattle.weftpillar.specs.Forms.{nextBytes}
 use mathlib.Core.Path.{sym, ap, _∙_}
-use Rattle.shown.specs.declared.Next.{Next}
-use denote.Ref.{now}
 use borrow.Author.Needs.{needs}
+use denote.Ref.{now}
+use Rattle.shown.specs.declared.Next.{Next}
+use Rattle.weftpillar.specs.Forms.{nextBytes}
 use Rattle.weftpillar.proofs.forms.write_next.Statement.{statement}
 use Rattle.weftpillar.proofs.forms.write_next.Tie as tie
 

@@ -1,12 +1,12 @@
+use Prim.Native.Nat.{ℕ}
 use mathlib.Core.List.{List, _∷_, _++_}
 use mathlib.Core.Path.{refl, ap, _∙_}
-use Rattle.weftpillar.proofs.Writing.{sets-after, sets-whole}
-use Rattle.run_bytes.specs.Numbers.{be32Bytes}
-use lib.Seq.{sets}
 use lib.ListN.{set}
-use Prim.Native.Nat.{ℕ}
-use denote.Ref.{now}
+use lib.Seq.{sets}
 use borrow.Author.Needs.{needs}
+use denote.Ref.{now}
+use Rattle.run_bytes.specs.Numbers.{be32Bytes}
+use Rattle.weftpillar.proofs.Writing.{sets-after, sets-whole}
 use Rattle.weftpillar.proofs.forms.write_pair.Statement.{statement}
 use Rattle.weftpillar.proofs.forms.write_pair.Tie as tie
 

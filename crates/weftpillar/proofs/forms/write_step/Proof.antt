@@ -1,7 +1,6 @@
-use Rattle.weftpillar.specs.Forms.{stepBytes}
 use mathlib.Core.Path.{sym, ap, _∙_}
-use denote.Ref.{now}
 use borrow.Author.Needs.{needs}
+use Rattle.weftpillar.specs.Forms.{stepBytes}
 use Rattle.weftpillar.proofs.forms.write_step.Statement.{statement}
 use Rattle.weftpillar.proofs.forms.write_step.Tie as tie
 

@@ -1,12 +1,10 @@
-use Rattle.weftpillar.specs.Forms.{ticksBytes}
-use Rattle.weftpillar.proofs.Writing.{sets-whole}
 use mathlib.Core.Path.{sym, ap, _∙_}
+use borrow.Author.Needs.{needs}
+use denote.Ref.{now}
 use Rattle.run.specs.declared.Reckoned.{Reckoned}
 use Rattle.run_bytes.specs.Numbers.{be32Bytes}
-use lib.Seq.{sets}
-use lib.ListN.{set}
-use denote.Ref.{now}
-use borrow.Author.Needs.{needs}
+use Rattle.weftpillar.specs.Forms.{ticksBytes}
+use Rattle.weftpillar.proofs.Writing.{sets-whole}
 use Rattle.weftpillar.proofs.forms.write_ticks.Statement.{statement}
 use Rattle.weftpillar.proofs.forms.write_ticks.Tie as tie
 

@@ -1,10 +1,9 @@
-use Rattle.weftpillar.proofs.AskedOn.{whole-fifths}
 use Prim.Native.Nat.{_*_}
-use borrow.Author.Tests.{ne-eqb}
 use mathlib.Core.Bool.{not}
 use mathlib.Core.Path.{sym, ap}
-use lib.Dec.{eqb}
 use native.Mathlib.Omega.{arith}
+use borrow.Author.Tests.{ne-eqb}
+use Rattle.weftpillar.proofs.AskedOn.{whole-fifths}
 use Rattle.weftpillar.proofs.many.counts_differ.Statement.{statement}
 use Rattle.weftpillar.proofs.many.counts_differ.Tie as tie
 

@@ -1,7 +1,7 @@
-use borrow.Author.Tests.{not-true, not-false}
-use Rattle.weftpillar.specs.Many.{askedOf}
 use mathlib.Core.Path.{sym, _∙_}
 use borrow.Author.Needs.{needs}
+use borrow.Author.Tests.{not-true, not-false}
+use Rattle.weftpillar.specs.Many.{askedOf}
 use Rattle.weftpillar.proofs.many.step_asked.Statement.{statement}
 use Rattle.weftpillar.proofs.many.step_asked.Tie as tie
 

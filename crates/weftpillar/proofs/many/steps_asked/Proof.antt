@@ -1,16 +1,15 @@
-use Rattle.weftpillar.proofs.AskedOn.{asked-none, asked-more, answers-none, answers-more, answers-length}
 use Prim.Native.Nat.{ℕ, _≤_, _-_}
-use Rattle.weftpillar.specs.Answers.{answerNumber}
-use Rattle.run.specs.State.{inRange}
 use mathlib.Core.Bool.{true}
 use mathlib.Core.Path.{_≡_, ap, _∙_}
-use lib.ListN.{length}
-use Rattle.run.specs.declared.Stepped.{Stepped}
-use Rattle.run.specs.declared.Step.{Step}
-use denote.Ref.{now}
 use native.Mathlib.Omega.{arith}
-use Rattle.weftpillar.specs.Many.{askedAt, afterAsked, answersBytes}
+use lib.ListN.{length}
 use borrow.Author.Needs.{needs}
+use denote.Ref.{now}
+use Rattle.run.specs.State.{inRange}
+use Rattle.run.specs.declared.Stepped.{Stepped}
+use Rattle.weftpillar.specs.Answers.{answerNumber}
+use Rattle.weftpillar.specs.Many.{askedAt, afterAsked, answersBytes}
+use Rattle.weftpillar.proofs.AskedOn.{asked-none, asked-more, answers-none, answers-more, answers-length}
 use Rattle.weftpillar.proofs.many.steps_asked.Statement.{statement}
 use Rattle.weftpillar.proofs.many.steps_asked.Tie as tie
 

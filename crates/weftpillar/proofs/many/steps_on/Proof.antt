@@ -1,19 +1,18 @@
-use Rattle.weftpillar.proofs.Calling.{inside-range, none-given, refused-leaves, done-leaves}
-use Rattle.weftpillar.specs.Calls.{stepsRows}
-use Rattle.weftpillar.specs.Many.{afterAsked, answersBytes}
-use Rattle.weftpillar.specs.Answers.{leaves}
-use Rattle.run_bytes.specs.RunBytes.{runBytes}
-use Rattle.run.specs.State.{inRange}
-use Rattle.plan.specs.Refusals.{run-outside}
-use Rattle.laws.specs.Row.{given}
 use mathlib.Core.Path.{refl, sym, ap, _∙_}
-use lib.ListN.{length}
-use Rattle.run.specs.declared.Run.{Run}
-use Rattle.laws.proofs.Rows.{first-here, first-next}
-use Rattle.plan.proofs.Sound.{sound}
-use denote.Ref.{now}
 use native.Mathlib.Omega.{arith}
+use lib.ListN.{length}
 use borrow.Author.Needs.{needs}
+use denote.Ref.{now}
+use Rattle.laws.proofs.Rows.{first-here, first-next}
+use Rattle.laws.specs.Row.{given}
+use Rattle.plan.proofs.Sound.{sound}
+use Rattle.plan.specs.Refusals.{run-outside}
+use Rattle.run.specs.State.{inRange}
+use Rattle.run.specs.declared.Run.{Run}
+use Rattle.run_bytes.specs.RunBytes.{runBytes}
+use Rattle.weftpillar.specs.Calls.{runTests}
+use Rattle.weftpillar.specs.Many.{afterAsked, answersBytes}
+use Rattle.weftpillar.proofs.Calling.{inside-range, none-given, refused-leaves, done-leaves}
 use Rattle.weftpillar.proofs.many.steps_on.Statement.{statement}
 use Rattle.weftpillar.proofs.many.steps_on.Tie as tie
 
@@ -24,7 +23,7 @@ same-length : tie.Need-same-length
 same-length c = search needs
 
 returns : tie.Need-returns
-unfolding stepsRows
+unfolding runTests
 returns c = (first-here (given run-outside _) _ (sym (c .before .run-outside .ensures) ∙ c .if1 .taken), (refused-leaves 10 10 _ _ refl (λ z. omega arith), refused-leaves 10 10 _ _ refl (λ z. omega arith)))
 
 cast-nodes : tie.Need-cast-nodes
@@ -49,7 +48,7 @@ same-length-3 : tie.Need-same-length-3
 same-length-3 c = search needs
 
 returns-2 : tie.Need-returns-2
-unfolding stepsRows
+unfolding runTests
 returns-2 c =
     let a = c .before .before .before .before .before .before .before .before .before .before .before .before .before .before .before .before .before .args in
     let n = length (now (a .answers)) in

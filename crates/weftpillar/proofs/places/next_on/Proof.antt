@@ -1,18 +1,18 @@
-use Rattle.weftpillar.specs.Calls.{placeFor, nextRows}
-use Rattle.weftpillar.specs.Answers.{nextNumber, leaves}
-use Rattle.shown.specs.Shown.{givenOf}
-use Rattle.shown.specs.declared.Given.{Given}
-use Rattle.shown.specs.declared.Place.{Place}
-use Rattle.weftpillar.specs.Forms.{placeBytes, nextBytes}
-use Rattle.weftpillar.proofs.Calling.{refused-last, refused-leaves}
-use Rattle.plan.specs.Refusals.{run-outside}
+use mathlib.Core.Path.{_≡_, refl, sym, ap, _∙_}
+use native.Mathlib.Omega.{arith}
+use borrow.Author.Needs.{needs}
+use denote.Ref.{now}
 use Rattle.laws.proofs.Rows.{first-here, first-next}
 use Rattle.laws.specs.Row.{given}
 use Rattle.plan.proofs.Sound.{sound}
-use denote.Ref.{now}
-use native.Mathlib.Omega.{arith}
-use mathlib.Core.Path.{_≡_, refl, sym, ap, _∙_}
-use borrow.Author.Needs.{needs}
+use Rattle.plan.specs.Refusals.{run-outside}
+use Rattle.shown.specs.Shown.{givenOf}
+use Rattle.shown.specs.declared.Given.{Given}
+use Rattle.shown.specs.declared.Place.{Place}
+use Rattle.weftpillar.specs.Answers.{nextNumber, leaves}
+use Rattle.weftpillar.specs.Calls.{placeFor, nextTests}
+use Rattle.weftpillar.specs.Forms.{placeBytes, nextBytes}
+use Rattle.weftpillar.proofs.Calling.{refused-last, refused-leaves}
 use Rattle.weftpillar.proofs.places.next_on.Statement.{statement}
 use Rattle.weftpillar.proofs.places.next_on.Tie as tie
 
@@ -26,7 +26,7 @@ same-length : tie.Need-same-length
 same-length c = search needs
 
 returns : tie.Need-returns
-unfolding nextRows
+unfolding nextTests
 returns c = (first-here (given run-outside _) _ (sym (c .before .place-wrong .ensures) ∙ c .if1 .taken), (refused-leaves 10 10 _ _ refl (λ z. omega arith), refused-leaves 10 10 _ _ refl (λ z. omega arith)))
 
 read-place-requires : tie.Need-read-place-requires
@@ -45,7 +45,7 @@ same-length-3 : tie.Need-same-length-3
 same-length-3 c = search needs
 
 returns-2 : tie.Need-returns-2
-unfolding nextRows
+unfolding nextTests
 returns-2 c =
     let a = c .before .before .before .before .before .before .before .before .before .before .before .before .before .before .before .before .args in
     let b = now (a .place) in

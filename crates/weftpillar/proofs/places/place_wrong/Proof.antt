@@ -1,8 +1,7 @@
-use Rattle.weftpillar.specs.Forms.{placeWrong}
-use Rattle.laws.proofs.Bools.{or-true-left}
-use mathlib.Core.Bool.{true}
 use mathlib.Core.Path.{sym, _∙_}
 use borrow.Author.Needs.{needs}
+use Rattle.laws.proofs.Bools.{or-true-left}
+use Rattle.weftpillar.specs.Forms.{placeWrong}
 use Rattle.weftpillar.proofs.places.place_wrong.Statement.{statement}
 use Rattle.weftpillar.proofs.places.place_wrong.Tie as tie
 

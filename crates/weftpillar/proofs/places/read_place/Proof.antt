@@ -1,5 +1,5 @@
-use Rattle.weftpillar.specs.Forms.{placeIn}
 use borrow.Author.Needs.{needs}
+use Rattle.weftpillar.specs.Forms.{placeIn}
 use Rattle.weftpillar.proofs.places.read_place.Statement.{statement}
 use Rattle.weftpillar.proofs.places.read_place.Tie as tie
 

@@ -1,8 +1,6 @@
-use Rattle.weftpillar.proofs.Calling.{refused-leaves, done-leaves}
-use Rattle.weftpillar.specs.Answers.{leaves}
-use Rattle.laws.specs.Row.{given}
 use mathlib.Core.Path.{refl, sym, _∙_}
 use borrow.Author.Needs.{needs}
+use Rattle.weftpillar.proofs.Calling.{refused-leaves, done-leaves}
 use Rattle.weftpillar.proofs.places.write_given.Statement.{statement}
 use Rattle.weftpillar.proofs.places.write_given.Tie as tie
 

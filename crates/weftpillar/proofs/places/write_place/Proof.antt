@@ -1,11 +1,11 @@
-use lib.ListN.{set}
-use Rattle.weftpillar.specs.Forms.{placeBytes}
-use Rattle.run_bytes.specs.RunBytes.{runBytes}
-use mathlib.Core.List.{List}
 use Prim.Native.Nat.{ℕ}
-use denote.Ref.{now}
+use mathlib.Core.List.{List}
 use mathlib.Core.Path.{ap, _∙_}
+use lib.ListN.{set}
 use borrow.Author.Needs.{needs}
+use denote.Ref.{now}
+use Rattle.run_bytes.specs.RunBytes.{runBytes}
+use Rattle.weftpillar.specs.Forms.{placeBytes}
 use Rattle.weftpillar.proofs.places.write_place.Statement.{statement}
 use Rattle.weftpillar.proofs.places.write_place.Tie as tie
 

@@ -1,18 +1,17 @@
-use Rattle.weftpillar.proofs.Calling.{none-given, refused-leaves, done-leaves}
-use Rattle.weftpillar.specs.Calls.{apartRows}
-use Rattle.weftpillar.specs.Forms.{apartBytes}
-use Rattle.weftpillar.specs.Answers.{leaves}
-use Rattle.run.specs.State.{apartOf}
-use Rattle.plan.specs.Refusals.{run-outside}
 use mathlib.Core.Path.{refl, sym, ap, _∙_}
-use Rattle.run.specs.declared.Apart.{Apart}
-use Rattle.run.specs.declared.Run.{Run}
+use native.Mathlib.Omega.{arith}
+use borrow.Author.Needs.{needs}
+use denote.Ref.{now}
 use Rattle.laws.proofs.Rows.{first-here, first-next}
 use Rattle.laws.specs.Row.{given}
 use Rattle.plan.proofs.Sound.{sound}
-use denote.Ref.{now}
-use native.Mathlib.Omega.{arith}
-use borrow.Author.Needs.{needs}
+use Rattle.plan.specs.Refusals.{run-outside}
+use Rattle.run.specs.State.{apartOf}
+use Rattle.run.specs.declared.Apart.{Apart}
+use Rattle.run.specs.declared.Run.{Run}
+use Rattle.weftpillar.specs.Calls.{runTests}
+use Rattle.weftpillar.specs.Forms.{apartBytes}
+use Rattle.weftpillar.proofs.Calling.{none-given, refused-leaves, done-leaves}
 use Rattle.weftpillar.proofs.runs.apart_on.Statement.{statement}
 use Rattle.weftpillar.proofs.runs.apart_on.Tie as tie
 
@@ -20,7 +19,7 @@ run-outside-requires : tie.Need-run-outside-requires
 run-outside-requires c κs = (c .before .before .pre .0, c .before .before .pre .1 .0)
 
 returns : tie.Need-returns
-unfolding apartRows
+unfolding runTests
 returns c = (first-here (given run-outside _) _ (sym (c .before .run-outside .ensures) ∙ c .if1 .taken), refused-leaves 10 10 _ _ refl (λ z. omega arith))
 
 cast-read-run : tie.Need-cast-read-run
@@ -39,7 +38,7 @@ same-length : tie.Need-same-length
 same-length c = search needs
 
 returns-2 : tie.Need-returns-2
-unfolding apartRows
+unfolding runTests
 returns-2 c =
     let a = c .before .before .before .before .before .before .before .before .before .before .before .args in
     let d = c .before .before .before .apart-tested .ensures ∙ ap (λ (r : Run). apartOf (a .plan) r) (c .before .before .before .before .before .read-run .ensures) in (

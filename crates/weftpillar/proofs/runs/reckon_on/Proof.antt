@@ -1,19 +1,19 @@
-use Rattle.weftpillar.proofs.Calling.{refused-last, refused-leaves, ticks-leaves}
-use Rattle.weftpillar.specs.Calls.{runFor, reckonRows}
-use Rattle.weftpillar.specs.Forms.{ticksBytes}
-use Rattle.weftpillar.specs.Answers.{reckonedNumber, leaves}
-use Rattle.plan.specs.Refusals.{run-outside}
+use Prim.Native.Nat.{ℕ}
+use mathlib.Core.Path.{_≡_, refl, sym, ap, _∙_}
+use native.Mathlib.Omega.{arith}
+use borrow.Author.Needs.{needs}
+use denote.Ref.{now}
+use Rattle.laws.proofs.Rows.{first-here, first-next}
 use Rattle.laws.specs.Row.{given}
+use Rattle.plan.proofs.Sound.{sound}
+use Rattle.plan.specs.Refusals.{run-outside}
 use Rattle.run.specs.Reckoning.{reckonedTested}
 use Rattle.run.specs.declared.Reckoned.{Reckoned}
 use Rattle.run.specs.declared.Run.{Run}
-use Rattle.laws.proofs.Rows.{first-here, first-next}
-use Rattle.plan.proofs.Sound.{sound}
-use Prim.Native.Nat.{ℕ}
-use denote.Ref.{now}
-use native.Mathlib.Omega.{arith}
-use mathlib.Core.Path.{_≡_, refl, sym, ap, _∙_}
-use borrow.Author.Needs.{needs}
+use Rattle.weftpillar.specs.Answers.{reckonedNumber, leaves}
+use Rattle.weftpillar.specs.Calls.{runFor, reckonTests}
+use Rattle.weftpillar.specs.Forms.{ticksBytes}
+use Rattle.weftpillar.proofs.Calling.{refused-last, refused-leaves, ticks-leaves}
 use Rattle.weftpillar.proofs.runs.reckon_on.Statement.{statement}
 use Rattle.weftpillar.proofs.runs.reckon_on.Tie as tie
 
@@ -24,7 +24,7 @@ numbers-wrong-requires : tie.Need-numbers-wrong-requires
 numbers-wrong-requires c κs = let s = sound _ (c .before .before .before .pre .0) in (s .nodes-high, omega arith)
 
 returns : tie.Need-returns
-unfolding reckonRows
+unfolding reckonTests
 returns c = (first-here (given run-outside _) _ (sym (c .before .numbers-wrong .ensures) ∙ c .if1 .taken), refused-leaves 10 10 _ _ refl (λ z. omega arith))
 
 read-run-requires : tie.Need-read-run-requires
@@ -43,7 +43,7 @@ same-length : tie.Need-same-length
 same-length c = search needs
 
 returns-2 : tie.Need-returns-2
-unfolding reckonRows
+unfolding reckonTests
 returns-2 c =
     let a = c .before .before .before .before .before .before .before .before .before .before .before .before .args in
     let b = now (a .ticks) in

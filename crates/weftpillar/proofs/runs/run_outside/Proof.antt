@@ -1,11 +1,9 @@
-use Rattle.laws.proofs.Bools.{or-true-left}
-use Rattle.weftpillar.specs.Calls.{runOutside}
-use Rattle.plan.specs.Refusals.{run-outside}
-use mathlib.Core.Bool.{true}
 use mathlib.Core.Path.{sym, _∙_}
-use Rattle.plan.proofs.Sound.{sound}
 use native.Mathlib.Omega.{arith}
 use borrow.Author.Needs.{needs}
+use Rattle.laws.proofs.Bools.{or-true-left}
+use Rattle.plan.proofs.Sound.{sound}
+use Rattle.weftpillar.specs.Calls.{runOutside}
 use Rattle.weftpillar.proofs.runs.run_outside.Statement.{statement}
 use Rattle.weftpillar.proofs.runs.run_outside.Tie as tie
 

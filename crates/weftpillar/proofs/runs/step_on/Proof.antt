@@ -1,22 +1,22 @@
-use Rattle.weftpillar.proofs.Calling.{refused-last, refused-leaves}
-use Rattle.weftpillar.specs.Calls.{stepRows, runFor}
-use Rattle.weftpillar.specs.Answers.{leaves, answerNumber}
-use Rattle.run_bytes.specs.RunBytes.{runBytes}
-use Rattle.lines.specs.In.{stepBy}
-use Rattle.run.specs.Steps.{stepTested}
-use Rattle.run.specs.declared.Stepped.{Stepped}
-use Rattle.run.specs.declared.Step.{Step}
-use Rattle.run.specs.declared.Run.{Run}
-use Rattle.plan.specs.Refusals.{line-wrong, run-outside}
+use mathlib.Core.Bool.{not}
+use mathlib.Core.Path.{_≡_, refl, sym, ap, _∙_}
+use native.Mathlib.Omega.{arith}
+use borrow.Author.Needs.{needs}
+use borrow.Author.Tests.{not-true, not-false}
+use denote.Ref.{now}
 use Rattle.laws.proofs.Rows.{first-here, first-next}
 use Rattle.laws.specs.Row.{given}
+use Rattle.lines.specs.In.{stepBy}
 use Rattle.plan.proofs.Sound.{sound}
-use borrow.Author.Tests.{not-true, not-false}
-use mathlib.Core.Bool.{true, false, not}
-use denote.Ref.{now}
-use native.Mathlib.Omega.{arith}
-use mathlib.Core.Path.{_≡_, refl, sym, ap, _∙_}
-use borrow.Author.Needs.{needs}
+use Rattle.plan.specs.Refusals.{line-wrong, run-outside}
+use Rattle.run.specs.Steps.{stepTested}
+use Rattle.run.specs.declared.Run.{Run}
+use Rattle.run.specs.declared.Step.{Step}
+use Rattle.run.specs.declared.Stepped.{Stepped}
+use Rattle.run_bytes.specs.RunBytes.{runBytes}
+use Rattle.weftpillar.specs.Answers.{leaves, answerNumber}
+use Rattle.weftpillar.specs.Calls.{stepTests, runFor}
+use Rattle.weftpillar.proofs.Calling.{refused-last, refused-leaves}
 use Rattle.weftpillar.proofs.runs.step_on.Statement.{statement}
 use Rattle.weftpillar.proofs.runs.step_on.Tie as tie
 
@@ -24,7 +24,7 @@ is-letter-requires : tie.Need-is-letter-requires
 is-letter-requires c κs = search needs
 
 returns : tie.Need-returns
-unfolding stepRows
+unfolding stepTests
 returns c =
     let l = sym (c .before .is-letter .ensures) ∙ not-true (c .before .is-letter .result) (c .if1 .taken) in
     (first-here (given line-wrong _) _ (ap not l), refused-leaves 19 19 _ _ refl (λ z. omega arith))
@@ -39,7 +39,7 @@ same-length : tie.Need-same-length
 same-length c = search needs
 
 returns-2 : tie.Need-returns-2
-unfolding stepRows
+unfolding stepTests
 returns-2 c =
     let l = sym (c .before .before .before .before .before .is-letter .ensures) ∙ not-false (c .before .before .before .before .before .is-letter .result) (c .before .before .before .before .if1 .left) in
     let w = sym (c .before .numbers-wrong .ensures) ∙ c .if2 .taken in
@@ -61,7 +61,7 @@ same-length-2 : tie.Need-same-length-2
 same-length-2 c = search needs
 
 returns-3 : tie.Need-returns-3
-unfolding stepRows
+unfolding stepTests
 returns-3 c =
     let a = c .before .before .before .before .before .before .before .before .before .before .before .before .before .before .before .args in
     let l = sym (c .before .before .before .before .before .before .before .before .before .before .before .before .before .is-letter .ensures) ∙ not-false (c .before .before .before .before .before .before .before .before .before .before .before .before .before .is-letter .result) (c .before .before .before .before .before .before .before .before .before .before .before .before .if1 .left) in

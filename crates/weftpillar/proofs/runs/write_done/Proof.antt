@@ -1,8 +1,7 @@
-use Rattle.weftpillar.proofs.Calling.{refused-leaves, done-leaves}
-use Rattle.weftpillar.specs.Answers.{leaves}
-use native.Mathlib.Omega.{arith}
 use mathlib.Core.Path.{refl, sym, _∙_}
+use native.Mathlib.Omega.{arith}
 use borrow.Author.Needs.{needs}
+use Rattle.weftpillar.proofs.Calling.{refused-leaves, done-leaves}
 use Rattle.weftpillar.proofs.runs.write_done.Statement.{statement}
 use Rattle.weftpillar.proofs.runs.write_done.Tie as tie
 

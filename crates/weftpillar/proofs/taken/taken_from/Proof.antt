@@ -1,8 +1,8 @@
 use mathlib.Core.Path.{_≡_, sym, _∙_}
-use Rattle.weftpillar.specs.Answers.{fileNumber, planIn}
-use Rattle.weftpillar.proofs.Calling.{taken-passes}
-use denote.Ref.{now}
 use borrow.Author.Needs.{needs}
+use denote.Ref.{now}
+use Rattle.weftpillar.specs.Answers.{fileRefusal, planIn}
+use Rattle.weftpillar.proofs.Calling.{taken-passes}
 use Rattle.weftpillar.proofs.taken.taken_from.Statement.{statement}
 use Rattle.weftpillar.proofs.taken.taken_from.Tie as tie
 
@@ -13,10 +13,10 @@ read-number-requires : tie.Need-read-number-requires
 read-number-requires c κs = search needs
 
 returns : tie.Need-returns
-unfolding fileNumber planIn
+unfolding fileRefusal planIn
 returns c =
     let e = c .before .before .read-plan .ensures in
-    let n : c .read-number .result ≡ fileNumber (now (c .before .before .before .before .args .file)) = rw (c .read-number .ensures, e) in
+    let n : c .read-number .result ≡ fileRefusal (now (c .before .before .before .before .args .file)) = rw (c .read-number .ensures, e) in
     let p : c .before .before .read-plan .result .plan ≡ planIn (now (c .before .before .before .before .args .file)) = rw e in
     (n, p, λ z. rw p (taken-passes _ (sym n ∙ z)))
 

@@ -1,12 +1,12 @@
+use Prim.Native.Nat.{ℕ, _+_}
+use mathlib.Core.List.{List}
 use mathlib.Core.Path.{refl, ap, _∙_}
+use lib.Seq.{sets}
+use borrow.Author.Needs.{needs}
+use denote.Ref.{now}
+use Rattle.run_bytes.specs.Numbers.{be64Bytes}
 use Rattle.weftpillar.specs.Forms.{sidesBytes}
 use Rattle.weftpillar.proofs.Writing.{sets-after}
-use Rattle.run_bytes.specs.Numbers.{be64Bytes}
-use lib.Seq.{sets}
-use mathlib.Core.List.{List}
-use Prim.Native.Nat.{ℕ, _+_}
-use denote.Ref.{now}
-use borrow.Author.Needs.{needs}
 use Rattle.weftpillar.proofs.verdicts.write_sides.Statement.{statement}
 use Rattle.weftpillar.proofs.verdicts.write_sides.Tie as tie
 

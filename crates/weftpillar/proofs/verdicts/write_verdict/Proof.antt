@@ -1,13 +1,13 @@
+use Prim.Native.Nat.{ℕ}
+use mathlib.Core.List.{List}
 use mathlib.Core.Path.{ap, _∙_}
+use lib.ListN.{set}
+use lib.Seq.{sets}
+use borrow.Author.Needs.{needs}
+use denote.Ref.{now}
+use Rattle.run_bytes.specs.Numbers.{be16Bytes}
 use Rattle.weftpillar.specs.Forms.{sidesBytes}
 use Rattle.weftpillar.proofs.Writing.{verdict-whole}
-use Rattle.run_bytes.specs.Numbers.{be16Bytes}
-use lib.Seq.{sets}
-use lib.ListN.{set}
-use mathlib.Core.List.{List}
-use Prim.Native.Nat.{ℕ}
-use denote.Ref.{now}
-use borrow.Author.Needs.{needs}
 use Rattle.weftpillar.proofs.verdicts.write_verdict.Statement.{statement}
 use Rattle.weftpillar.proofs.verdicts.write_verdict.Tie as tie
 
