@@ -14,7 +14,7 @@
    buffer that a call may write overlaps no other buffer of the same call. All numbers in bytes are big-endian.
 
      plan     a plan file, whole: 21 + 2 * N bytes. Byte 5 of one that is taken is N, the number of nodes.
-     verdict   51 bytes: outcome (1): 0 accepted, or 1 to 3 the first rule that fails; M (2); then for rules 1, 2 and 3
+     verdict  51 bytes: outcome (1): 0 accepted, or 1 to 3 the first rule that fails; M (2); then for rules 1, 2 and 3
               the left side (8) and the right side (8). A rule holds where left is less than right.
      run      291 bytes: 32 places of 9: clock (1), slot (2), time since tick (4), mode (1): 0 waiting, 1 about to send,
               2 sending, message pending (1): 0 or 1; then the last message: 0 0 0 for none, or 1 and its slot (2).
