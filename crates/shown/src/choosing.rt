@@ -13,6 +13,7 @@ use crate::Mark;
 use crate::Parts;
 use crate::Seen;
 use crate::looking::due_time;
+use crate::looking::guard_ends;
 use plan::Node;
 use plan::Plan;
 use plan::Time;
@@ -81,12 +82,7 @@ fn pivot_next(plan: Plan, parts: Parts, state: NodeState) -> bool
 {
     let mode = state.mode;
     match mode {
-        Mode::Waiting => {
-            if state.slot.0 != parts.p.0 {
-                return false;
-            }
-            state.clock.0 as u32 + 1 == plan.guard.0 as u32
-        }
+        Mode::Waiting => guard_ends(plan, parts.p, state),
         Mode::AboutToSend => false,
         Mode::Sending => false,
     }

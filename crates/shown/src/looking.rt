@@ -6,7 +6,7 @@ ghost use Rattle.plan.specs.Sending.{own};
 ghost use Rattle.plan.specs.Tested.{Sound};
 ghost use Rattle.run.specs.declared.Run.{Run as RunOf};
 ghost use Rattle.run.specs.State.{node, isAbout, outOfStep};
-ghost use Rattle.run.specs.Moves.{modeAfter};
+ghost use Rattle.run.specs.Moves.{guardEnds, modeAfter};
 ghost use Rattle.shown.specs.Shown.{dueTime, goesFirst, goesSecond};
 ghost use Rattle.shown.specs.declared.Place.{Place as PlaceOf};
 ghost use Rattle.shown.specs.Looking.{seenFrom, lookedOf};
@@ -41,18 +41,23 @@ pub fn due_time(plan: Plan, parts: Parts, mark: Mark, i: Node) -> Time
     }
 }
 
+// A node is in slot w with clock g − 1.
+pub fn guard_ends(plan: Plan, w: Slot, node: NodeState) -> bool
+    ensures { λ r. ⌜ r ≡ guardEnds plan (w .0) (node .clock .0) (node .slot .0) ⌝ }
+{
+    if node.slot.0 != w.0 {
+        return false;
+    }
+    node.clock.0 as u32 + 1 == plan.guard.0 as u32
+}
+
 // A tick now would make a node about to send that sends in slot `own`.
 fn turns(plan: Plan, own: Slot, node: NodeState) -> bool
     ensures { λ r. ⌜ r ≡ isAbout (modeAfter plan (own .0) (node .clock .0) (node .slot .0) (node .mode)) ⌝ }
 {
     let mode = node.mode;
     match mode {
-        Mode::Waiting => {
-            if node.slot.0 != own.0 {
-                return false;
-            }
-            node.clock.0 as u32 + 1 == plan.guard.0 as u32
-        }
+        Mode::Waiting => guard_ends(plan, own, node),
         Mode::AboutToSend => true,
         Mode::Sending => false,
     }

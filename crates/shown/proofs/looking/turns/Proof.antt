@@ -1,9 +1,8 @@
 use Prim.Native.Nat.{_+_}
-use mathlib.Core.Path.{_≡_, refl}
+use mathlib.Core.Path.{_≡_, refl, _∙_}
 use mathlib.Core.Bool.{Bool, true, false, cond}
 use lib.Dec.{eqb}
-use borrow.Author.Tests.{eq-eqb, ne-eqb}
-use Rattle.run.specs.Moves.{modeAfter}
+use Rattle.run.specs.Moves.{guardEnds, modeAfter}
 use Rattle.run.specs.State.{isAbout}
 use Rattle.run.specs.declared.Mode.the-variants.{Waiting, AboutToSend, Sending}
 use borrow.Author.Needs.{needs}
@@ -21,18 +20,8 @@ never-about false = refl
 enum-told : tie.Need-enum-told
 enum-told c = search needs
 
-returns : tie.Need-returns
-unfolding modeAfter
-returns c = rw (c .before .before .before .enum-told .given .1, ne-eqb _ _ (c .if1 .taken))
-
-cast-result : tie.Need-cast-result
-cast-result c = search needs
-
-add-result : tie.Need-add-result
-add-result c = search needs
-
-cast-result-2 : tie.Need-cast-result-2
-cast-result-2 c = search needs
+guard-ends-requires : tie.Need-guard-ends-requires
+guard-ends-requires c κs = search needs
 
 enum-told-2 : tie.Need-enum-told-2
 enum-told-2 c = search needs
@@ -40,33 +29,23 @@ enum-told-2 c = search needs
 enum-told-3 : tie.Need-enum-told-3
 enum-told-3 c = search needs
 
+returns : tie.Need-returns
+unfolding modeAfter
+returns c =
+    let a = c .before .before .before .args in
+    rw (c .before .enum-told .given .1) (c .guard-ends .ensures ∙ about-if (guardEnds (a .plan) (a .own .0) (a .node .clock .0) (a .node .slot .0)))
+
 returns-2 : tie.Need-returns-2
 unfolding modeAfter
-returns-2 c =
-    let a = c .before .before .before .before .before .before .before .args in
-    rw (c .before .before .before .before .before .enum-told .given .1, eq-eqb _ _ (c .before .before .if1 .left)) (about-if (eqb (a .node .clock .0 + 1) (a .plan .guard .0)))
+returns-2 c = rw (c .enum-told2 .given .1)
 
 returns-3 : tie.Need-returns-3
 unfolding modeAfter
-returns-3 c = rw (c .enum-told2 .given .1)
-
-returns-4 : tie.Need-returns-4
-unfolding modeAfter
-returns-4 c =
+returns-3 c =
     let a = c .before .before .args in
     rw (c .enum-told3 .given .1) (never-about (eqb (a .node .clock .0 + a .plan .tail .0 + 1) (a .plan .ticks .0)))
 
 pub turns-spec : {M : Type 1} → statement M
 turns-spec =
     tie.close
-    (tie.spec
-    enum-told
-    returns
-    cast-result
-    add-result
-    cast-result-2
-    enum-told-2
-    enum-told-3
-    returns-2
-    returns-3
-    returns-4)
+    (tie.spec enum-told guard-ends-requires enum-told-2 enum-told-3 returns returns-2 returns-3)
