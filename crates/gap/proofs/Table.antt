@@ -1,10 +1,10 @@
 -- The walk over a table of occupied slots finds what the definition says.
-use Prim.Native.Nat.{ℕ, zero, suc, _+_, _-_, _<_}
+use Prim.Native.Nat.{ℕ, zero, suc, _+_, _-_, _%_, _≤_, _<_}
 use mathlib.Core.Path.{_≡_, refl, sym, _∙_}
 use mathlib.Core.Logic.{_≢_}
 use mathlib.Core.Bool.{Bool, true, false, cond, _||_}
 use mathlib.Core.List.{List}
-use native.Mathlib.Nat.{mod-lt}
+use native.Mathlib.Nat.{mod-eq-of-lt, mod-lt}
 use native.Mathlib.Numerals.{add-one}
 use native.Mathlib.Decide.{ℕ-discrete}
 use native.Mathlib.Omega.{arith}
@@ -14,12 +14,21 @@ use lib.Seq.{getD-set-same, getD-set-other}
 use lib.Dec.{eqb}
 use Rattle.laws.specs.Below.{anyBelow}
 use Rattle.laws.proofs.Bools.{or-true-right}
+use Rattle.laws.proofs.Ring.{mod-once}
 use Rattle.plan.specs.declared.Plan.{Plan}
 use Rattle.plan.specs.Sending.{own, sendsBelow, sends}
 use Rattle.gap.specs.Gap.{slotBefore, nearest}
 use Rattle.laws.proofs.Overs.{getD-over}
 use Rattle.gap.specs.declared.Distances.{Distances}
-use Rattle.gap.specs.Distances.{taken, Occupied, nodeDistance, noDistance, distancesOf}
+use Rattle.gap.specs.Distances.{taken, Free, Occupied, nodeDistance, noDistance, distancesOf}
+
+-- the slot before: round the frame from slot 0, one less from any other
+
+pub before-0 : (C s : ℕ) → s ≡ 0 → s < C → C - 1 ≡ slotBefore C s
+before-0 C s e h = let m : (s + C - 1) % C ≡ s + C - 1 = mod-eq-of-lt (omega arith) in omega arith
+
+pub before-other : (C s : ℕ) → s ≢ 0 → s < C → s - 1 ≡ slotBefore C s
+before-other C s e h = omega (arith, mod-once (s + C - 1) C (omega arith) (omega arith))
 
 -- the search, by what it meets
 
@@ -36,6 +45,20 @@ pub nearest-on : (f : ℕ → Bool) (C left s : ℕ) → left ≢ 0 → f s ≡ 
 unfolding nearest
 nearest-on f C zero s n e = absurd (n refl)
 nearest-on f C (suc left) s n e = let q : suc left - 1 ≡ left = omega arith in rw (nearest, e, q)
+
+-- a row of slots that do not pass, not round the frame, is skipped at once
+pub nearest-skip : (f : ℕ → Bool) (C left s n : ℕ) → n ≤ left → n ≤ s → s < C → ((j : ℕ) → j < n → f (s - j) ≡ false) → nearest f C (left - n) (s - n) ≡ nearest f C left s
+nearest-skip f C left s zero l m h free = let p : left - 0 ≡ left = omega arith in let q : s - 0 ≡ s = omega arith in rw (p, q)
+nearest-skip f C left s (suc n) l m h free =
+    let rest = nearest-skip f C (left - 1) (s - 1) n (omega arith) (omega arith) (omega arith) (λ j i. rw (less s j) (free (suc j) (omega arith))) in
+    let first = nearest-on f C left s (omega arith) (rw (none s) at (free 0 (omega arith))) in
+    rw (less left n, less s n) at rest ∙ rw (← before-other C s (omega arith) h) at first
+  where
+    less : (a b : ℕ) → a - 1 - b ≡ a - suc b
+    less a b = omega arith
+
+    none : (a : ℕ) → a - 0 ≡ a
+    none a = omega arith
 
 -- tests that agree on the frame find the same
 pub nearest-same : (f g : ℕ → Bool) (C left s : ℕ) → s < C → ((x : ℕ) → x < C → f x ≡ g x) → nearest f C left s ≡ nearest g C left s
@@ -82,6 +105,14 @@ taken-sends P table o s = go (sends P s) (o .marks s)
     go : (b : Bool) → getD table s 0 ≡ cond b 1 0 → taken table s ≡ b
     go true e = eq-eqb (getD table s 0) 1 e
     go false e = ne-eqb (getD table s 0) 1 (λ q. omega arith)
+
+-- a row of free slots, and one more slot
+pub free-more : (table : List ℕ) (s n : ℕ) → Free table s n → taken table (s - n) ≡ false → Free table s (n + 1)
+free-more table s n row e j h = go (ℕ-discrete j n)
+  where
+    go : Dec (j ≡ n) → taken table (s - j) ≡ false
+    go (yes q) = rw q e
+    go (no q) = row j (omega arith)
 
 -- the distances of all nodes
 

@@ -1,7 +1,7 @@
 -- The predecessor and D of every node's sending slot at once, and the table they are found on.
-use Prim.Native.Nat.{ℕ, _≤_, _<_}
+use Prim.Native.Nat.{ℕ, _-_, _≤_, _<_}
 use mathlib.Core.Path.{_≡_}
-use mathlib.Core.Bool.{Bool, cond}
+use mathlib.Core.Bool.{Bool, false, cond}
 use mathlib.Core.List.{List}
 use lib.ListN.{length, getD, replicate}
 use lib.Dec.{eqb}
@@ -15,6 +15,10 @@ use Rattle.gap.specs.Gap.{predecessor, distanceBefore}
 -- Slot s is marked as occupied in a table.
 abbrev pub taken : List ℕ → ℕ → Bool
 taken table s = eqb (getD table s 0) 1
+
+-- Of n slots from s backwards none is marked.
+abbrev pub Free : List ℕ → (s n : ℕ) → Type 0
+Free table s n = (j : ℕ) → j < n → taken table (s - j) ≡ false
 
 -- A table that holds 1 for each sending slot of the plan and 0 for every other.
 pub record Occupied (P : Plan) (table : List ℕ) : Type 0 where

@@ -7,7 +7,7 @@ ghost use lib.ListN.{length};
 ghost use Rattle.laws.specs.Ring.{distance};
 ghost use Rattle.plan.specs.Tested.{planNumber, Sound};
 ghost use Rattle.gap.specs.Gap.{slotBefore, nearest, gapOf};
-ghost use Rattle.gap.specs.Distances.{Occupied, taken, nodeDistance, distancesOf};
+ghost use Rattle.gap.specs.Distances.{Occupied, taken, Free, nodeDistance, distancesOf};
 
 // The predecessor of a node's sending slot, and D, the slots from it.
 pub struct NodeDistance {
@@ -44,7 +44,32 @@ fn slot_before(frame: u16, slot: u16) -> u16
     slot - 1
 }
 
-// The nearest occupied slot at a slot or before it; the number of slots left in the frame falls.
+// The slots that one row may have from a slot backwards: at most 64, at most those left, and none past slot 0.
+fn row(left: u16, slot: u16) -> u16
+    ensures { λ r. ⌜ (r ≤ left) × (r ≤ slot) ⌝ }
+{
+    if left < 64 {
+        return smaller(left, slot);
+    }
+    smaller(64, slot)
+}
+
+// How many slots in a row are free, from a slot backwards.
+fn free_before(table: &[u8], most: u16, slot: u16) -> u16
+    requires { ⌜ (most ≤ slot) × (slot < length (now table)) ⌝ }
+    ensures { λ r. ⌜ (r ≤ most) × (Free (now (table .entry)) slot r) ⌝ }
+{
+    let mut count = 0u16;
+    while count < most {
+        if table[(slot - count) as usize] == 1 {
+            return count;
+        }
+        count += 1;
+    }
+    count
+}
+
+// The nearest occupied slot at a slot or before it, a row of free slots at a time; the number of slots left in the frame falls.
 fn nearest_taken(table: &[u8], frame: u16, left: u16, slot: u16) -> u16
     requires { ⌜ (slot < frame) × (frame ≤ 4096) × (4096 ≤ length (now table)) ⌝ }
     ensures { λ r. ⌜ (r ≡ nearest (taken (now (table .entry))) frame left slot) × (r < frame) ⌝ }
@@ -56,7 +81,9 @@ fn nearest_taken(table: &[u8], frame: u16, left: u16, slot: u16) -> u16
         return slot;
     }
     let before = slot_before(frame, slot);
-    nearest_taken(table, frame, left - 1, before)
+    let most = row(left - 1, before);
+    let free = free_before(table, most, before);
+    nearest_taken(table, frame, left - 1 - free, before - free)
 }
 
 fn node_distance(plan: Plan, table: &[u8], slot: Slot) -> NodeDistance
@@ -114,4 +141,13 @@ fn larger(a: u16, b: u16) -> u16
         return b;
     }
     a
+}
+
+fn smaller(a: u16, b: u16) -> u16
+    ensures { λ r. ⌜ (r ≤ a) × (r ≤ b) ⌝ }
+{
+    if a < b {
+        return a;
+    }
+    b
 }

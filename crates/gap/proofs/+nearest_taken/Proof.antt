@@ -1,13 +1,18 @@
 use mathlib.Core.Path.{_∙_}
+use denote.Ref.{now}
+use native.Mathlib.Omega.{arith}
+use Rattle.gap.specs.Distances.{taken}
 use borrow.Author.Tests.{eq-eqb, ne-eqb}
-use Rattle.gap.proofs.Table.{nearest-none, nearest-here, nearest-on}
+use Rattle.gap.proofs.Table.{nearest-none, nearest-here, nearest-on, nearest-skip}
 use borrow.Author.Needs.{needs}
-use Prim.Native.Nat.{ℕ, _<_}
+use Prim.Native.Nat.{ℕ, _-_, _<_}
 use borrow.Fn.Kinds.{In}
 use borrow.Fn.PlainCycle.{Measures, is, falls, and}
 use Rattle.gap.proofs.nearest_taken.Reads as nearest-taken
 use Rattle.gap.proofs.nearest_taken.Kinds as nearest-taken-kinds
 use Rattle.gap.proofs.+nearest_taken.Lts-nearest_taken as nearest-taken-lts
+use Rattle.gap.proofs.free_before.Reads as free-before-reads
+use Rattle.gap.proofs.row.Reads as row-reads
 use Rattle.gap.proofs.slot_before.Reads as slot-before-reads
 use Rattle.gap.proofs.+nearest_taken.{statement}
 use Rattle.gap.proofs.+nearest_taken.Tie.{close}
@@ -30,6 +35,10 @@ nearest-taken-below t =
 nearest-taken-returns : (t : ℕ) → nearest-taken-lts.Need-returns (
   slot-before-reads.Asked,
   slot-before-reads.Learnt,
+  row-reads.Asked,
+  row-reads.Learnt,
+  free-before-reads.Asked,
+  free-before-reads.Learnt,
   nearest-taken-below t,
   nearest-taken.Post,
 ) (nearest-taken-at t) nearest-taken.Post
@@ -38,6 +47,10 @@ nearest-taken-returns t c = (nearest-none _ _ _ _ (c .if1 .taken), search needs)
 nearest-taken-shared-slice-read-if2 : (t : ℕ) → nearest-taken-lts.Need-shared-slice-read-if2 (
   slot-before-reads.Asked,
   slot-before-reads.Learnt,
+  row-reads.Asked,
+  row-reads.Learnt,
+  free-before-reads.Asked,
+  free-before-reads.Learnt,
   nearest-taken-below t,
   nearest-taken.Post,
 ) (nearest-taken-at t) nearest-taken.Post
@@ -46,6 +59,10 @@ nearest-taken-shared-slice-read-if2 t c = search needs
 nearest-taken-returns-2 : (t : ℕ) → nearest-taken-lts.Need-returns-2 (
   slot-before-reads.Asked,
   slot-before-reads.Learnt,
+  row-reads.Asked,
+  row-reads.Learnt,
+  free-before-reads.Asked,
+  free-before-reads.Learnt,
   nearest-taken-below t,
   nearest-taken.Post,
 ) (nearest-taken-at t) nearest-taken.Post
@@ -54,22 +71,94 @@ nearest-taken-returns-2 t c = (nearest-here _ _ _ _ (eq-eqb _ 1 (c .if2 .taken))
 nearest-taken-slot-before-requires : (t : ℕ) → nearest-taken-lts.Need-slot-before-requires (
   slot-before-reads.Asked,
   slot-before-reads.Learnt,
+  row-reads.Asked,
+  row-reads.Learnt,
+  free-before-reads.Asked,
+  free-before-reads.Learnt,
   nearest-taken-below t,
   nearest-taken.Post,
 ) (nearest-taken-at t) nearest-taken.Post
 nearest-taken-slot-before-requires t c κs = search needs
 
+nearest-taken-sub-row : (t : ℕ) → nearest-taken-lts.Need-sub-row (
+  slot-before-reads.Asked,
+  slot-before-reads.Learnt,
+  row-reads.Asked,
+  row-reads.Learnt,
+  free-before-reads.Asked,
+  free-before-reads.Learnt,
+  nearest-taken-below t,
+  nearest-taken.Post,
+) (nearest-taken-at t) nearest-taken.Post
+nearest-taken-sub-row t c = search needs
+
+nearest-taken-row-requires : (t : ℕ) → nearest-taken-lts.Need-row-requires (
+  slot-before-reads.Asked,
+  slot-before-reads.Learnt,
+  row-reads.Asked,
+  row-reads.Learnt,
+  free-before-reads.Asked,
+  free-before-reads.Learnt,
+  nearest-taken-below t,
+  nearest-taken.Post,
+) (nearest-taken-at t) nearest-taken.Post
+nearest-taken-row-requires t c κs = search needs
+
+nearest-taken-free-before-requires : (t : ℕ) → nearest-taken-lts.Need-free-before-requires (
+  slot-before-reads.Asked,
+  slot-before-reads.Learnt,
+  row-reads.Asked,
+  row-reads.Learnt,
+  free-before-reads.Asked,
+  free-before-reads.Learnt,
+  nearest-taken-below t,
+  nearest-taken.Post,
+) (nearest-taken-at t) nearest-taken.Post
+nearest-taken-free-before-requires t c κs = search needs
+
 nearest-taken-sub-nearest-taken : (t : ℕ) → nearest-taken-lts.Need-sub-nearest-taken (
   slot-before-reads.Asked,
   slot-before-reads.Learnt,
+  row-reads.Asked,
+  row-reads.Learnt,
+  free-before-reads.Asked,
+  free-before-reads.Learnt,
   nearest-taken-below t,
   nearest-taken.Post,
 ) (nearest-taken-at t) nearest-taken.Post
 nearest-taken-sub-nearest-taken t c = search needs
 
+nearest-taken-sub-nearest-taken-2 : (t : ℕ) → nearest-taken-lts.Need-sub-nearest-taken-2 (
+  slot-before-reads.Asked,
+  slot-before-reads.Learnt,
+  row-reads.Asked,
+  row-reads.Learnt,
+  free-before-reads.Asked,
+  free-before-reads.Learnt,
+  nearest-taken-below t,
+  nearest-taken.Post,
+) (nearest-taken-at t) nearest-taken.Post
+nearest-taken-sub-nearest-taken-2 t c = search needs
+
+nearest-taken-sub-nearest-taken-3 : (t : ℕ) → nearest-taken-lts.Need-sub-nearest-taken-3 (
+  slot-before-reads.Asked,
+  slot-before-reads.Learnt,
+  row-reads.Asked,
+  row-reads.Learnt,
+  free-before-reads.Asked,
+  free-before-reads.Learnt,
+  nearest-taken-below t,
+  nearest-taken.Post,
+) (nearest-taken-at t) nearest-taken.Post
+nearest-taken-sub-nearest-taken-3 t c = search needs
+
 nearest-taken-nearest-taken-requires : (t : ℕ) → nearest-taken-lts.Need-nearest-taken-requires (
   slot-before-reads.Asked,
   slot-before-reads.Learnt,
+  row-reads.Asked,
+  row-reads.Learnt,
+  free-before-reads.Asked,
+  free-before-reads.Learnt,
   nearest-taken-below t,
   nearest-taken.Post,
 ) (nearest-taken-at t) nearest-taken.Post
@@ -78,18 +167,32 @@ nearest-taken-nearest-taken-requires t c κs = search needs
 nearest-taken-returns-3 : (t : ℕ) → nearest-taken-lts.Need-returns-3 (
   slot-before-reads.Asked,
   slot-before-reads.Learnt,
+  row-reads.Asked,
+  row-reads.Learnt,
+  free-before-reads.Asked,
+  free-before-reads.Learnt,
   nearest-taken-below t,
   nearest-taken.Post,
 ) (nearest-taken-at t) nearest-taken.Post
-nearest-taken-returns-3 t c = (
-  rw (c .before .slot-before .ensures .0) at (c .nearest-taken .ensures .0) ∙ nearest-on _ _ _ _ (c .before .before .before .before .if1 .left) (ne-eqb _ 1 (c .before .before .if2 .left)),
-  c .nearest-taken .ensures .1,
-)
+nearest-taken-returns-3 t c = let e4 = c .before .before .before .before in
+    let a = e4 .before .before .before .before .args in
+    let f = taken (now (a .table)) in
+    let back = c .before .before .before .slot-before .ensures in
+    let row = c .before .before .row .ensures in
+    let free = c .before .free-before .ensures in
+    let skip = nearest-skip f (a .frame) (a .left - 1) (c .before .before .before .slot-before .result) (c .before .free-before .result) (omega arith) (omega arith) (back .1) (free .1) in (
+      c .nearest-taken .ensures .0 ∙ skip ∙ rw (back .0) (nearest-on f (a .frame) (a .left) (a .slot) (e4 .before .before .if1 .left) (ne-eqb _ 1 (e4 .if2 .left))),
+      c .nearest-taken .ensures .1,
+    )
 
 pub +nearest-taken-spec : {M : Type 1} → statement M
 +nearest-taken-spec = close μ-nearest-taken λ t. nearest-taken-lts.spec (
   slot-before-reads.Asked,
   slot-before-reads.Learnt,
+  row-reads.Asked,
+  row-reads.Learnt,
+  free-before-reads.Asked,
+  free-before-reads.Learnt,
   nearest-taken-below t,
   nearest-taken.Post,
 )
@@ -99,6 +202,11 @@ pub +nearest-taken-spec : {M : Type 1} → statement M
     (nearest-taken-shared-slice-read-if2 t)
     (nearest-taken-returns-2 t)
     (nearest-taken-slot-before-requires t)
+    (nearest-taken-sub-row t)
+    (nearest-taken-row-requires t)
+    (nearest-taken-free-before-requires t)
     (nearest-taken-sub-nearest-taken t)
+    (nearest-taken-sub-nearest-taken-2 t)
+    (nearest-taken-sub-nearest-taken-3 t)
     (nearest-taken-nearest-taken-requires t)
     (nearest-taken-returns-3 t)

@@ -1,20 +1,8 @@
--- The remainder by cases: round the frame from slot 0, one less from any other.
-use Prim.Native.Nat.{ℕ, _+_, _-_, _%_, _<_}
-use mathlib.Core.Path.{_≡_, sym}
-use mathlib.Core.Logic.{_≢_}
-use native.Mathlib.Nat.{mod-eq-of-lt}
 use native.Mathlib.Omega.{arith}
 use borrow.Author.Needs.{needs}
-use Rattle.laws.proofs.Ring.{mod-once}
-use Rattle.gap.specs.Gap.{slotBefore}
+use Rattle.gap.proofs.Table.{before-0, before-other}
 use Rattle.gap.proofs.slot_before.Statement.{statement}
 use Rattle.gap.proofs.slot_before.Tie as tie
-
-before-0 : (C s : ℕ) → s ≡ 0 → s < C → C - 1 ≡ slotBefore C s
-before-0 C s e h = let m : (s + C - 1) % C ≡ s + C - 1 = mod-eq-of-lt (omega arith) in omega arith
-
-before-other : (C s : ℕ) → s ≢ 0 → s < C → s - 1 ≡ slotBefore C s
-before-other C s e h = omega (arith, mod-once (s + C - 1) C (omega arith) (omega arith))
 
 sub-result : tie.Need-sub-result
 sub-result c = search needs

@@ -1,0 +1,59 @@
+use borrow.Author.Tests.{ne-eqb}
+use Rattle.gap.proofs.Table.{free-more}
+use Rattle.gap.specs.Distances.{Free}
+use native.Mathlib.Omega.{arith}
+use Prim.Native.Nat.{_≤_, _-_}
+use borrow.Author.Needs.{needs}
+use Rattle.gap.proofs.free_before.Statement.{statement}
+use Rattle.gap.proofs.free_before.Tie as tie
+
+abbrev Inv-loop : tie.InvT-loop
+Inv-loop table most slot count₀ count = (count ≤ most) × Free table slot count
+
+abbrev μ-loop : tie.MeasureT-loop
+μ-loop table most slot count₀ count = most - count
+
+loop-holds : tie.Need-loop-holds Inv-loop μ-loop
+loop-holds c = (search needs, λ j h. absurd (omega arith))
+
+sub-if1 : tie.Need-sub-if1 Inv-loop μ-loop
+sub-if1 c = search needs
+
+cast-if1 : tie.Need-cast-if1 Inv-loop μ-loop
+cast-if1 c = search needs
+
+shared-slice-read-if1 : tie.Need-shared-slice-read-if1 Inv-loop μ-loop
+shared-slice-read-if1 c = search needs
+
+returns : tie.Need-returns Inv-loop μ-loop
+returns c = search needs
+
+add-count : tie.Need-add-count Inv-loop μ-loop
+add-count c = search needs
+
+loop-less : tie.Need-loop-less Inv-loop μ-loop
+loop-less c = search needs
+
+loop-again : tie.Need-loop-again Inv-loop μ-loop
+loop-again c = let a = c .before .before .before .before .args in
+    let l = c .before .before .before .loop in
+    (omega arith, free-more (a .table .now) (a .slot) (l .count) (l .inv .1) (ne-eqb _ 1 (c .if1 .left)))
+
+returns-2 : tie.Need-returns-2 Inv-loop μ-loop
+returns-2 c = search needs
+
+pub free-before-spec : {M : Type 1} → statement M
+free-before-spec =
+    tie.close
+    (tie.spec
+    Inv-loop
+    μ-loop
+    loop-holds
+    sub-if1
+    cast-if1
+    shared-slice-read-if1
+    returns
+    add-count
+    loop-less
+    loop-again
+    returns-2)
