@@ -4,7 +4,7 @@ use mathlib.Core.Path.{_≡_, refl, sym, _∙_}
 use mathlib.Core.Logic.{_≢_}
 use mathlib.Core.Bool.{Bool, true, false, cond, _||_}
 use mathlib.Core.List.{List}
-use native.Mathlib.Nat.{mod-eq-of-lt, mod-lt}
+use native.Mathlib.Nat.{sub-zero, mod-eq-of-lt, mod-lt}
 use native.Mathlib.Numerals.{add-one}
 use native.Mathlib.Decide.{ℕ-discrete}
 use native.Mathlib.Omega.{arith}
@@ -48,17 +48,14 @@ nearest-on f C (suc left) s n e = let q : suc left - 1 ≡ left = omega arith in
 
 -- a row of slots that do not pass, not round the frame, is skipped at once
 pub nearest-skip : (f : ℕ → Bool) (C left s n : ℕ) → n ≤ left → n ≤ s → s < C → ((j : ℕ) → j < n → f (s - j) ≡ false) → nearest f C (left - n) (s - n) ≡ nearest f C left s
-nearest-skip f C left s zero l m h free = let p : left - 0 ≡ left = omega arith in let q : s - 0 ≡ s = omega arith in rw (p, q)
+nearest-skip f C left s zero l m h free = rw (sub-zero left, sub-zero s)
 nearest-skip f C left s (suc n) l m h free =
     let rest = nearest-skip f C (left - 1) (s - 1) n (omega arith) (omega arith) (omega arith) (λ j i. rw (less s j) (free (suc j) (omega arith))) in
-    let first = nearest-on f C left s (omega arith) (rw (none s) at (free 0 (omega arith))) in
+    let first = nearest-on f C left s (omega arith) (rw (sub-zero s) at (free 0 (omega arith))) in
     rw (less left n, less s n) at rest ∙ rw (← before-other C s (omega arith) h) at first
   where
     less : (a b : ℕ) → a - 1 - b ≡ a - suc b
     less a b = omega arith
-
-    none : (a : ℕ) → a - 0 ≡ a
-    none a = omega arith
 
 -- tests that agree on the frame find the same
 pub nearest-same : (f g : ℕ → Bool) (C left s : ℕ) → s < C → ((x : ℕ) → x < C → f x ≡ g x) → nearest f C left s ≡ nearest g C left s

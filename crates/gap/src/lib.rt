@@ -2,7 +2,7 @@
 use plan::Plan;
 use plan::Slot;
 ghost use mathlib.Core.Path.{_≡_};
-ghost use Prim.Native.Nat.{ℕ, _+_, _≤_, _<_, max};
+ghost use Prim.Native.Nat.{ℕ, _+_, _≤_, _<_, min, max};
 ghost use lib.ListN.{length};
 ghost use Rattle.laws.specs.Ring.{distance};
 ghost use Rattle.plan.specs.Tested.{planNumber, Sound};
@@ -48,13 +48,10 @@ fn slot_before(frame: u16, slot: u16) -> u16
 fn row(left: u16, slot: u16) -> u16
     ensures { λ r. ⌜ (r ≤ left) × (r ≤ slot) ⌝ }
 {
-    if left < 64 {
-        return smaller(left, slot);
-    }
-    smaller(64, slot)
+    smaller(64, smaller(left, slot))
 }
 
-// How many slots in a row are free, from a slot backwards.
+// How many slots in a row are free, from a slot backwards, of so many at most.
 fn free_before(table: &[u8], most: u16, slot: u16) -> u16
     requires { ⌜ (most ≤ slot) × (slot < length (now table)) ⌝ }
     ensures { λ r. ⌜ (r ≤ most) × (Free (now (table .entry)) slot r) ⌝ }
@@ -144,7 +141,7 @@ fn larger(a: u16, b: u16) -> u16
 }
 
 fn smaller(a: u16, b: u16) -> u16
-    ensures { λ r. ⌜ (r ≤ a) × (r ≤ b) ⌝ }
+    ensures { λ r. ⌜ r ≡ min a b ⌝ }
 {
     if a < b {
         return a;

@@ -174,16 +174,14 @@ nearest-taken-returns-3 : (t : ℕ) → nearest-taken-lts.Need-returns-3 (
   nearest-taken-below t,
   nearest-taken.Post,
 ) (nearest-taken-at t) nearest-taken.Post
-nearest-taken-returns-3 t c = let e4 = c .before .before .before .before in
-    let a = e4 .before .before .before .before .args in
+nearest-taken-returns-3 t c = let here = c .before .before .before .before in
+    let a = here .before .before .before .before .args in
     let f = taken (now (a .table)) in
-    let back = c .before .before .before .slot-before .ensures in
-    let row = c .before .before .row .ensures in
-    let free = c .before .free-before .ensures in
-    let skip = nearest-skip f (a .frame) (a .left - 1) (c .before .before .before .slot-before .result) (c .before .free-before .result) (omega arith) (omega arith) (back .1) (free .1) in (
-      c .nearest-taken .ensures .0 ∙ skip ∙ rw (back .0) (nearest-on f (a .frame) (a .left) (a .slot) (e4 .before .before .if1 .left) (ne-eqb _ 1 (e4 .if2 .left))),
-      c .nearest-taken .ensures .1,
-    )
+    let back = c .before .before .before .slot-before in
+    let free = c .before .free-before in
+    let skip = nearest-skip f (a .frame) (a .left - 1) (back .result) (free .result) (omega arith) (omega arith) (back .ensures .1) (free .ensures .1) in
+    let on = nearest-on f (a .frame) (a .left) (a .slot) (here .before .before .if1 .left) (ne-eqb _ 1 (here .if2 .left)) in
+    (c .nearest-taken .ensures .0 ∙ skip ∙ rw (back .ensures .0) on, c .nearest-taken .ensures .1)
 
 pub +nearest-taken-spec : {M : Type 1} → statement M
 +nearest-taken-spec = close μ-nearest-taken λ t. nearest-taken-lts.spec (
