@@ -32,7 +32,9 @@ nearest-taken-below t =
     (falls 1 nearest-taken-kinds.ps _<_ μ-nearest-taken t)
     nearest-taken.Pre
 
-nearest-taken-returns : (t : ℕ) → nearest-taken-lts.Need-returns (
+-- what each function that is called asks for and promises, and the recursive call where less is left
+abbrev claims : ℕ → nearest-taken-lts.Claims
+claims t = (
   slot-before-reads.Asked,
   slot-before-reads.Learnt,
   row-reads.Asked,
@@ -41,139 +43,42 @@ nearest-taken-returns : (t : ℕ) → nearest-taken-lts.Need-returns (
   free-before-reads.Learnt,
   nearest-taken-below t,
   nearest-taken.Post,
-) (nearest-taken-at t) nearest-taken.Post
+)
+
+nearest-taken-returns : (t : ℕ) → nearest-taken-lts.Need-returns (claims t) (nearest-taken-at t) nearest-taken.Post
 nearest-taken-returns t c = (nearest-none _ _ _ _ (c .if1 .taken), search needs)
 
-nearest-taken-shared-slice-read-if2 : (t : ℕ) → nearest-taken-lts.Need-shared-slice-read-if2 (
-  slot-before-reads.Asked,
-  slot-before-reads.Learnt,
-  row-reads.Asked,
-  row-reads.Learnt,
-  free-before-reads.Asked,
-  free-before-reads.Learnt,
-  nearest-taken-below t,
-  nearest-taken.Post,
-) (nearest-taken-at t) nearest-taken.Post
+nearest-taken-shared-slice-read-if2 : (t : ℕ) → nearest-taken-lts.Need-shared-slice-read-if2 (claims t) (nearest-taken-at t) nearest-taken.Post
 nearest-taken-shared-slice-read-if2 t c = search needs
 
-nearest-taken-returns-2 : (t : ℕ) → nearest-taken-lts.Need-returns-2 (
-  slot-before-reads.Asked,
-  slot-before-reads.Learnt,
-  row-reads.Asked,
-  row-reads.Learnt,
-  free-before-reads.Asked,
-  free-before-reads.Learnt,
-  nearest-taken-below t,
-  nearest-taken.Post,
-) (nearest-taken-at t) nearest-taken.Post
+nearest-taken-returns-2 : (t : ℕ) → nearest-taken-lts.Need-returns-2 (claims t) (nearest-taken-at t) nearest-taken.Post
 nearest-taken-returns-2 t c = (nearest-here _ _ _ _ (eq-eqb _ 1 (c .if2 .taken)), search needs)
 
-nearest-taken-slot-before-requires : (t : ℕ) → nearest-taken-lts.Need-slot-before-requires (
-  slot-before-reads.Asked,
-  slot-before-reads.Learnt,
-  row-reads.Asked,
-  row-reads.Learnt,
-  free-before-reads.Asked,
-  free-before-reads.Learnt,
-  nearest-taken-below t,
-  nearest-taken.Post,
-) (nearest-taken-at t) nearest-taken.Post
+nearest-taken-slot-before-requires : (t : ℕ) → nearest-taken-lts.Need-slot-before-requires (claims t) (nearest-taken-at t) nearest-taken.Post
 nearest-taken-slot-before-requires t c κs = search needs
 
-nearest-taken-sub-row : (t : ℕ) → nearest-taken-lts.Need-sub-row (
-  slot-before-reads.Asked,
-  slot-before-reads.Learnt,
-  row-reads.Asked,
-  row-reads.Learnt,
-  free-before-reads.Asked,
-  free-before-reads.Learnt,
-  nearest-taken-below t,
-  nearest-taken.Post,
-) (nearest-taken-at t) nearest-taken.Post
+nearest-taken-sub-row : (t : ℕ) → nearest-taken-lts.Need-sub-row (claims t) (nearest-taken-at t) nearest-taken.Post
 nearest-taken-sub-row t c = search needs
 
-nearest-taken-row-requires : (t : ℕ) → nearest-taken-lts.Need-row-requires (
-  slot-before-reads.Asked,
-  slot-before-reads.Learnt,
-  row-reads.Asked,
-  row-reads.Learnt,
-  free-before-reads.Asked,
-  free-before-reads.Learnt,
-  nearest-taken-below t,
-  nearest-taken.Post,
-) (nearest-taken-at t) nearest-taken.Post
+nearest-taken-row-requires : (t : ℕ) → nearest-taken-lts.Need-row-requires (claims t) (nearest-taken-at t) nearest-taken.Post
 nearest-taken-row-requires t c κs = search needs
 
-nearest-taken-free-before-requires : (t : ℕ) → nearest-taken-lts.Need-free-before-requires (
-  slot-before-reads.Asked,
-  slot-before-reads.Learnt,
-  row-reads.Asked,
-  row-reads.Learnt,
-  free-before-reads.Asked,
-  free-before-reads.Learnt,
-  nearest-taken-below t,
-  nearest-taken.Post,
-) (nearest-taken-at t) nearest-taken.Post
+nearest-taken-free-before-requires : (t : ℕ) → nearest-taken-lts.Need-free-before-requires (claims t) (nearest-taken-at t) nearest-taken.Post
 nearest-taken-free-before-requires t c κs = search needs
 
-nearest-taken-sub-nearest-taken : (t : ℕ) → nearest-taken-lts.Need-sub-nearest-taken (
-  slot-before-reads.Asked,
-  slot-before-reads.Learnt,
-  row-reads.Asked,
-  row-reads.Learnt,
-  free-before-reads.Asked,
-  free-before-reads.Learnt,
-  nearest-taken-below t,
-  nearest-taken.Post,
-) (nearest-taken-at t) nearest-taken.Post
+nearest-taken-sub-nearest-taken : (t : ℕ) → nearest-taken-lts.Need-sub-nearest-taken (claims t) (nearest-taken-at t) nearest-taken.Post
 nearest-taken-sub-nearest-taken t c = search needs
 
-nearest-taken-sub-nearest-taken-2 : (t : ℕ) → nearest-taken-lts.Need-sub-nearest-taken-2 (
-  slot-before-reads.Asked,
-  slot-before-reads.Learnt,
-  row-reads.Asked,
-  row-reads.Learnt,
-  free-before-reads.Asked,
-  free-before-reads.Learnt,
-  nearest-taken-below t,
-  nearest-taken.Post,
-) (nearest-taken-at t) nearest-taken.Post
+nearest-taken-sub-nearest-taken-2 : (t : ℕ) → nearest-taken-lts.Need-sub-nearest-taken-2 (claims t) (nearest-taken-at t) nearest-taken.Post
 nearest-taken-sub-nearest-taken-2 t c = search needs
 
-nearest-taken-sub-nearest-taken-3 : (t : ℕ) → nearest-taken-lts.Need-sub-nearest-taken-3 (
-  slot-before-reads.Asked,
-  slot-before-reads.Learnt,
-  row-reads.Asked,
-  row-reads.Learnt,
-  free-before-reads.Asked,
-  free-before-reads.Learnt,
-  nearest-taken-below t,
-  nearest-taken.Post,
-) (nearest-taken-at t) nearest-taken.Post
+nearest-taken-sub-nearest-taken-3 : (t : ℕ) → nearest-taken-lts.Need-sub-nearest-taken-3 (claims t) (nearest-taken-at t) nearest-taken.Post
 nearest-taken-sub-nearest-taken-3 t c = search needs
 
-nearest-taken-nearest-taken-requires : (t : ℕ) → nearest-taken-lts.Need-nearest-taken-requires (
-  slot-before-reads.Asked,
-  slot-before-reads.Learnt,
-  row-reads.Asked,
-  row-reads.Learnt,
-  free-before-reads.Asked,
-  free-before-reads.Learnt,
-  nearest-taken-below t,
-  nearest-taken.Post,
-) (nearest-taken-at t) nearest-taken.Post
+nearest-taken-nearest-taken-requires : (t : ℕ) → nearest-taken-lts.Need-nearest-taken-requires (claims t) (nearest-taken-at t) nearest-taken.Post
 nearest-taken-nearest-taken-requires t c κs = search needs
 
-nearest-taken-returns-3 : (t : ℕ) → nearest-taken-lts.Need-returns-3 (
-  slot-before-reads.Asked,
-  slot-before-reads.Learnt,
-  row-reads.Asked,
-  row-reads.Learnt,
-  free-before-reads.Asked,
-  free-before-reads.Learnt,
-  nearest-taken-below t,
-  nearest-taken.Post,
-) (nearest-taken-at t) nearest-taken.Post
+nearest-taken-returns-3 : (t : ℕ) → nearest-taken-lts.Need-returns-3 (claims t) (nearest-taken-at t) nearest-taken.Post
 nearest-taken-returns-3 t c = let here = c .before .before .before .before in
     let a = here .before .before .before .before .args in
     let f = taken (now (a .table)) in
@@ -184,16 +89,7 @@ nearest-taken-returns-3 t c = let here = c .before .before .before .before in
     (c .nearest-taken .ensures .0 ∙ skip ∙ rw (back .ensures .0) on, c .nearest-taken .ensures .1)
 
 pub +nearest-taken-spec : {M : Type 1} → statement M
-+nearest-taken-spec = close μ-nearest-taken λ t. nearest-taken-lts.spec (
-  slot-before-reads.Asked,
-  slot-before-reads.Learnt,
-  row-reads.Asked,
-  row-reads.Learnt,
-  free-before-reads.Asked,
-  free-before-reads.Learnt,
-  nearest-taken-below t,
-  nearest-taken.Post,
-)
++nearest-taken-spec = close μ-nearest-taken λ t. nearest-taken-lts.spec (claims t)
     (nearest-taken-at t)
     nearest-taken.Post
     (nearest-taken-returns t)
