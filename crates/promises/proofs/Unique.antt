@@ -53,7 +53,6 @@ use Rattle.step_lines.proofs.reading_end.Reads as reading-end
 use Rattle.step_lines.proofs.read_line.Reads as read-line
 use Rattle.run_bytes.proofs.read_run.Reads as read-run
 use Rattle.run_bytes.proofs.numbers_wrong.Reads as numbers-wrong
-use Rattle.run_bytes.proofs.bytes_wrong.Reads as bytes-wrong
 use Rattle.weftpillar.proofs.weftpillar_judge.Reads as weftpillar-judge
 use Rattle.weftpillar.proofs.weftpillar_fresh.Reads as weftpillar-fresh
 use Rattle.weftpillar.proofs.weftpillar_fresh_place.Reads as weftpillar-fresh-place
@@ -235,9 +234,6 @@ read-run-one κ a x y l m p q = p ∙ sym q
 
 pub numbers-wrong-one : OneAnswer numbers-wrong.Post
 numbers-wrong-one κ a x y l m p q = p ∙ sym q
-
-pub bytes-wrong-one : OneAnswer bytes-wrong.Post
-bytes-wrong-one κ a x y l m p q = p ∙ sym q
 
 -- weftpillar: each call and each buffer that it may write
 

@@ -3,7 +3,7 @@
 use Prim.Native.Nat.{ℕ, zero, suc, _+_, _*_}
 use mathlib.Core.Bool.{Bool, true, false, cond, not, _||_}
 use mathlib.Core.List.{List, [], _∷_, _++_}
-use lib.ListN.{length, replicate}
+use lib.ListN.{replicate}
 use lib.Seq.{sets}
 use lib.Dec.{eqb, ltb}
 use Rattle.laws.specs.Below.{anyBelow}
@@ -76,7 +76,3 @@ nodeWrong bytes at = ltb 2 (byteAt bytes (at + 7)) || ltb 1 (byteAt bytes (at + 
 -- The same of the first N places, and of the last message's mark.
 unfoldable pub numbersWrong : ℕ → List ℕ → Bool
 numbersWrong N bytes = anyBelow N (λ k. nodeWrong bytes (9 * k)) || ltb 1 (byteAt bytes 288)
-
--- The bytes spell no run: another length than 291, or a number outside its range.
-unfoldable pub runBytesWrong : ℕ → List ℕ → Bool
-runBytesWrong N bytes = not (eqb (length bytes) 291) || numbersWrong N bytes

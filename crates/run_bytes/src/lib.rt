@@ -4,7 +4,7 @@ ghost use Prim.Native.Nat.{_+_, _*_, _≤_};
 ghost use lib.ListN.{length, set};
 ghost use lib.Seq.{sets};
 ghost use Rattle.run_bytes.specs.Numbers.{be16Bytes, be32Bytes, be64Bytes};
-ghost use Rattle.run_bytes.specs.RunBytes.{modeByte, modeIn, flagByte, nodeBytes, lastBytes, nodeIn, lastIn, runIn, nodesBytes, runBytes, nodeWrong, numbersWrong, runBytesWrong};
+ghost use Rattle.run_bytes.specs.RunBytes.{modeByte, modeIn, flagByte, nodeBytes, lastBytes, nodeIn, lastIn, runIn, nodesBytes, runBytes, nodeWrong, numbersWrong};
 use plan::Slot;
 use plan::Tick;
 use plan::Time;
@@ -182,15 +182,4 @@ pub fn numbers_wrong(bytes: &[u8], nodes: usize) -> bool
         }
     }
     1 < bytes[288]
-}
-
-// The bytes spell no run: another length than 291, or a number outside its range.
-pub fn bytes_wrong(bytes: &[u8], nodes: usize) -> bool
-    requires { ⌜ nodes ≤ 32 ⌝ }
-    ensures { λ r. ⌜ r ≡ runBytesWrong nodes (now (bytes .entry)) ⌝ }
-{
-    if bytes.len() != 291 {
-        return true;
-    }
-    numbers_wrong(bytes, nodes)
 }
