@@ -20,6 +20,7 @@ use Rattle.rules.proofs.rule_number.Reads as rule-number
 use Rattle.run.proofs.fresh.Reads as fresh
 use Rattle.run.proofs.out_of_step.Reads as out-of-step
 use Rattle.run.proofs.is_about.Reads as is-about
+use Rattle.run.proofs.is_sending.Reads as is-sending
 use Rattle.run.proofs.in_range.Reads as in-range
 use Rattle.run.proofs.apart_tested.Reads as apart-tested
 use Rattle.run.proofs.is_out_of_step.Reads as is-out-of-step
@@ -29,6 +30,7 @@ use Rattle.moves.proofs.sent.Reads as sent
 use Rattle.steps.proofs.step.Reads as step
 use Rattle.steps.proofs.step_tested.Reads as step-tested
 use Rattle.steps.proofs.step_in_range.Reads as step-in-range
+use Rattle.steps.proofs.moved.Reads as moved
 use Rattle.reckoning.proofs.reckon.Reads as reckon
 use Rattle.reckoning.proofs.reckon_tested.Reads as reckon-tested
 use Rattle.desk.proofs.step_at_desk.Reads as step-at-desk
@@ -118,6 +120,9 @@ out-of-step-one κ a x y l m p q = p ∙ sym q
 pub is-about-one : OneAnswer is-about.Post
 is-about-one κ a x y l m p q = p ∙ sym q
 
+pub is-sending-one : OneAnswer is-sending.Post
+is-sending-one κ a x y l m p q = p ∙ sym q
+
 pub in-range-one : OneAnswer in-range.Post
 in-range-one κ a x y l m p q = p ∙ sym q
 
@@ -148,6 +153,9 @@ step-tested-one κ a x y l m p q = p ∙ sym q
 
 pub step-in-range-one : OneAnswer step-in-range.Post
 step-in-range-one κ a x y l m p q = p .0 ∙ sym (q .0)
+
+pub moved-one : OneAnswer moved.Post
+moved-one κ a x y l m p q = p .0 ∙ sym (q .0)
 
 -- reckoning
 
