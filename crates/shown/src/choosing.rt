@@ -5,7 +5,7 @@ ghost use mathlib.Core.Bool.{cond};
 ghost use lib.Dec.{eqb};
 ghost use Rattle.plan.specs.Tested.{Sound};
 ghost use Rattle.run.specs.State.{node};
-ghost use Rattle.run.specs.declared.Run.{Run as RunOf};
+ghost use Rattle.run.specs.declared.Run.{Run};
 ghost use Rattle.shown.specs.declared.Mark.the-variants.{Before, In, After};
 ghost use Rattle.shown.specs.Shown.{timeToDue, nextStep, pivotNext, markAfter};
 ghost use Rattle.shown.specs.Looking.{seenFrom};
@@ -78,7 +78,7 @@ pub fn next_step(plan: Plan, parts: Parts, run: Run, mark: Mark, seen: Seen) -> 
 
 // The sender of p, of which this is the state, waits in p with clock g − 1.
 fn pivot_next(plan: Plan, parts: Parts, state: NodeState) -> bool
-    ensures { λ r. ⌜ ((run : RunOf) → node run (parts .sender .0) ≡ state → r ≡ pivotNext plan parts run) ⌝ }
+    ensures { λ r. ⌜ ((run : Run) → node run (parts .sender .0) ≡ state → r ≡ pivotNext plan parts run) ⌝ }
 {
     let mode = state.mode;
     match mode {

@@ -4,11 +4,11 @@ ghost use mathlib.Core.Bool.{false, cond, _&&_, _||_};
 ghost use Prim.Native.Nat.{_+_, _<_};
 ghost use Rattle.plan.specs.Sending.{own};
 ghost use Rattle.plan.specs.Tested.{Sound};
-ghost use Rattle.run.specs.declared.Run.{Run as RunOf};
+ghost use Rattle.run.specs.declared.Run.{Run};
 ghost use Rattle.run.specs.State.{node, isAbout, outOfStep};
 ghost use Rattle.run.specs.Moves.{guardEnds, modeAfter};
 ghost use Rattle.shown.specs.Shown.{dueTime, goesFirst, goesSecond};
-ghost use Rattle.shown.specs.declared.Place.{Place as PlaceOf};
+ghost use Rattle.shown.specs.declared.Place.{Place};
 ghost use Rattle.shown.specs.Looking.{seenFrom, lookedOf};
 use crate::Looked;
 use crate::Mark;
@@ -66,7 +66,7 @@ fn turns(plan: Plan, own: Slot, node: NodeState) -> bool
 // Node i, with this sending slot and state, is among those who tick first.
 fn goes_first(plan: Plan, parts: Parts, mark: Mark, i: Node, slot: Slot, state: NodeState) -> bool
     requires { ⌜ slot .0 ≡ own plan (i .0) ⌝ }
-    ensures { λ r. ⌜ ((run : RunOf) → node run (i .0) ≡ state → r ≡ goesFirst plan parts run mark (i .0)) ⌝ }
+    ensures { λ r. ⌜ ((run : Run) → node run (i .0) ≡ state → r ≡ goesFirst plan parts run mark (i .0)) ⌝ }
 {
     match mark {
         Mark::Before => !turns(plan, slot, state),
@@ -131,7 +131,7 @@ fn seen_with(
 ) -> Seen
     requires { ⌜ slot .0 ≡ own plan (i .0) ⌝ }
     requires { ⌜ i .0 < plan .nodes .0 ⌝ }
-    ensures { λ r. ⌜ ((q : PlaceOf) → q .mark ≡ mark → node (q .run) (i .0) ≡ state → seen ≡ seenFrom plan parts q (i .0 + 1) → r ≡ seenFrom plan parts q (i .0)) ⌝ }
+    ensures { λ r. ⌜ ((q : Place) → q .mark ≡ mark → node (q .run) (i .0) ≡ state → seen ≡ seenFrom plan parts q (i .0 + 1) → r ≡ seenFrom plan parts q (i .0)) ⌝ }
 {
     let time = due_time(plan, parts, mark, i);
     let due = state.time.0 == time.0;
