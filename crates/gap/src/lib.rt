@@ -34,65 +34,70 @@ fn occupied(plan: Plan, nodes: usize) -> [u8; 4096]
 }
 
 // The slot before, backwards round the frame.
-fn slot_before(frame: u16, slot: u16) -> u16
-    requires { ⌜ (slot < frame) × (frame ≤ 4096) ⌝ }
-    ensures { λ r. ⌜ (r ≡ slotBefore frame slot) × (r < frame) ⌝ }
+fn slot_before(frame: Slot, slot: Slot) -> Slot
+    requires { ⌜ (slot .0 < frame .0) × (frame .0 ≤ 4096) ⌝ }
+    ensures { λ r. ⌜ (r .0 ≡ slotBefore (frame .0) (slot .0)) × (r .0 < frame .0) ⌝ }
 {
-    if slot == 0 {
-        return frame - 1;
+    if slot.0 == 0 {
+        return Slot(frame.0 - 1);
     }
-    slot - 1
+    Slot(slot.0 - 1)
 }
 
 // The slots that one row may have from a slot backwards: at most 64, at most those left, and none past slot 0.
-fn row(left: u16, slot: u16) -> u16
-    ensures { λ r. ⌜ (r ≤ left) × (r ≤ slot) ⌝ }
+fn row(left: Slot, slot: Slot) -> Slot
+    ensures { λ r. ⌜ (r .0 ≤ left .0) × (r .0 ≤ slot .0) ⌝ }
 {
-    smaller(64, smaller(left, slot))
+    smaller(Slot(64), smaller(left, slot))
 }
 
 // How many slots in a row are free, from a slot backwards, of so many at most.
-fn free_before(table: &[u8], most: u16, slot: u16) -> u16
-    requires { ⌜ (most ≤ slot) × (slot < length (now table)) ⌝ }
-    ensures { λ r. ⌜ (r ≤ most) × (Free (now (table .entry)) slot r) ⌝ }
+fn free_before(table: &[u8], most: Slot, slot: Slot) -> Slot
+    requires { ⌜ (most .0 ≤ slot .0) × (slot .0 < length (now table)) ⌝ }
+    ensures { λ r. ⌜ (r .0 ≤ most .0) × (Free (now (table .entry)) (slot .0) (r .0)) ⌝ }
 {
     let mut count = 0u16;
-    while count < most {
-        if table[(slot - count) as usize] == 1 {
-            return count;
+    while count < most.0 {
+        if table[(slot.0 - count) as usize] == 1 {
+            return Slot(count);
         }
         count += 1;
     }
-    count
+    Slot(count)
 }
 
 // The nearest occupied slot at a slot or before it, a row of free slots at a time; the number of slots left in the frame falls.
-fn nearest_taken(table: &[u8], frame: u16, left: u16, slot: u16) -> u16
-    requires { ⌜ (slot < frame) × (frame ≤ 4096) × (4096 ≤ length (now table)) ⌝ }
-    ensures { λ r. ⌜ (r ≡ nearest (taken (now (table .entry))) frame left slot) × (r < frame) ⌝ }
+fn nearest_taken(table: &[u8], frame: Slot, left: Slot, slot: Slot) -> Slot
+    requires { ⌜ (slot .0 < frame .0) × (frame .0 ≤ 4096) × (4096 ≤ length (now table)) ⌝ }
+    ensures { λ r. ⌜ (r .0 ≡ nearest (taken (now (table .entry))) (frame .0) (left .0) (slot .0)) × (r .0 < frame .0) ⌝ }
 {
-    if left == 0 {
+    if left.0 == 0 {
         return slot;
     }
-    if table[slot as usize] == 1 {
+    if table[slot.0 as usize] == 1 {
         return slot;
     }
     let before = slot_before(frame, slot);
-    let most = row(left - 1, before);
+    let most = row(Slot(left.0 - 1), before);
     let free = free_before(table, most, before);
-    nearest_taken(table, frame, left - 1 - free, before - free)
+    nearest_taken(
+        table,
+        frame,
+        Slot(left.0 - 1 - free.0),
+        Slot(before.0 - free.0),
+    )
 }
 
 fn node_distance(plan: Plan, table: &[u8], slot: Slot) -> NodeDistance
     requires { ⌜ (Sound plan) × (Occupied plan (now table)) × (slot .0 < plan .frame .0) ⌝ }
     ensures { λ r. ⌜ r ≡ nodeDistance plan (slot .0) ⌝ }
 {
-    let frame = plan.frame.0;
-    let before = slot_before(frame, slot.0);
-    let predecessor = nearest_taken(table, frame, frame - 1, before);
+    let frame = plan.frame;
+    let before = slot_before(frame, slot);
+    let predecessor = nearest_taken(table, frame, Slot(frame.0 - 1), before);
     NodeDistance {
-        predecessor: Slot(predecessor),
-        distance: Slot((slot.0 + frame - predecessor) % frame),
+        predecessor: predecessor,
+        distance: Slot((slot.0 + frame.0 - predecessor.0) % frame.0),
     }
 }
 
@@ -123,27 +128,27 @@ pub fn gap_tested(plan: Plan, distances: Distances) -> Slot
     ensures { λ r. ⌜ r .0 ≡ gapOf plan ⌝ }
 {
     let nodes = plan.nodes.0 as usize;
-    let mut widest = 0u16;
+    let mut widest = Slot(0);
     for i in 0..nodes {
         let node = distances.nodes[i];
-        widest = larger(widest, node.distance.0);
+        widest = larger(widest, node.distance);
     }
-    Slot(widest)
+    widest
 }
 
-fn larger(a: u16, b: u16) -> u16
-    ensures { λ r. ⌜ r ≡ max a b ⌝ }
+fn larger(a: Slot, b: Slot) -> Slot
+    ensures { λ r. ⌜ r .0 ≡ max (a .0) (b .0) ⌝ }
 {
-    if a < b {
+    if a.0 < b.0 {
         return b;
     }
     a
 }
 
-fn smaller(a: u16, b: u16) -> u16
-    ensures { λ r. ⌜ r ≡ min a b ⌝ }
+fn smaller(a: Slot, b: Slot) -> Slot
+    ensures { λ r. ⌜ r .0 ≡ min (a .0) (b .0) ⌝ }
 {
-    if a < b {
+    if a.0 < b.0 {
         return a;
     }
     b

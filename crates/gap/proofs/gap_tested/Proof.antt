@@ -14,7 +14,7 @@ use Rattle.gap.proofs.gap_tested.Statement.{statement}
 use Rattle.gap.proofs.gap_tested.Tie as tie
 
 abbrev Inv-loop : tie.InvT-loop
-Inv-loop distances nodes widest₀ i₀ widest i = (i ≤ nodes) × (widest ≡ largestBelow i (λ k. getD (distances .nodes) k noDistance .distance .0))
+Inv-loop distances nodes widest₀ i₀ widest i = (i ≤ nodes) × (widest .0 ≡ largestBelow i (λ k. getD (distances .nodes) k noDistance .distance .0))
 
 abbrev μ-loop : tie.MeasureT-loop
 μ-loop distances nodes widest₀ i₀ widest i = nodes - i

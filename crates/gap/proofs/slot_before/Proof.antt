@@ -4,17 +4,17 @@ use Rattle.gap.proofs.Table.{before-0, before-other}
 use Rattle.gap.proofs.slot_before.Statement.{statement}
 use Rattle.gap.proofs.slot_before.Tie as tie
 
-sub-result : tie.Need-sub-result
-sub-result c = search needs
+sub-t4 : tie.Need-sub-t4
+sub-t4 c = search needs
 
 returns : tie.Need-returns
-returns c = let a = c .before .args in (before-0 (a .frame) (a .slot) (omega arith) (omega arith), omega arith)
+returns c = let a = c .before .before .before .args in (before-0 (a .frame .0) (a .slot .0) (omega arith) (omega arith), omega arith)
 
-sub-result-2 : tie.Need-sub-result-2
-sub-result-2 c = search needs
+sub-t5 : tie.Need-sub-t5
+sub-t5 c = search needs
 
 returns-2 : tie.Need-returns-2
-returns-2 c = let a = c .before .args in (before-other (a .frame) (a .slot) (omega arith) (omega arith), omega arith)
+returns-2 c = let a = c .before .before .before .args in (before-other (a .frame .0) (a .slot .0) (omega arith) (omega arith), omega arith)
 
 pub slot-before-spec : {M : Type 1} → statement M
-slot-before-spec = tie.close (tie.spec sub-result returns sub-result-2 returns-2)
+slot-before-spec = tie.close (tie.spec sub-t4 returns sub-t5 returns-2)
