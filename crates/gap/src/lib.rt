@@ -136,6 +136,7 @@ pub fn gap_tested(plan: Plan, distances: Distances) -> Slot
     widest
 }
 
+// The larger of two slots.
 fn larger(a: Slot, b: Slot) -> Slot
     ensures { λ r. ⌜ r .0 ≡ max (a .0) (b .0) ⌝ }
 {
@@ -145,7 +146,8 @@ fn larger(a: Slot, b: Slot) -> Slot
     a
 }
 
-fn smaller(a: Slot, b: Slot) -> Slot
+// The smaller of two slots.
+pub fn smaller(a: Slot, b: Slot) -> Slot
     ensures { λ r. ⌜ r .0 ≡ min (a .0) (b .0) ⌝ }
 {
     if a.0 < b.0 {

@@ -14,6 +14,7 @@ use Rattle.plan_file.proofs.be16.Reads as be16
 use Rattle.plan_file.proofs.be32.Reads as be32
 use Rattle.gap.proofs.distances_tested.Reads as distances-tested
 use Rattle.gap.proofs.gap_tested.Reads as gap-tested
+use Rattle.gap.proofs.smaller.Reads as smaller
 use Rattle.rules.proofs.judge.Reads as judge
 use Rattle.rules.proofs.verdict_tested.Reads as verdict-tested
 use Rattle.rules.proofs.rule_number.Reads as rule-number
@@ -97,6 +98,9 @@ distances-tested-one κ a x y l m p q = p ∙ sym q
 
 pub gap-tested-one : OneAnswer gap-tested.Post
 gap-tested-one κ a x y l m p q = ap (λ (n : ℕ). slot n) (p ∙ sym q)
+
+pub smaller-one : OneAnswer smaller.Post
+smaller-one κ a x y l m p q = ap (λ (n : ℕ). slot n) (p ∙ sym q)
 
 -- rules
 

@@ -50,18 +50,18 @@ fn ticks_at(ticks: u64, time: Time) -> u64
 }
 
 // The ticks of so many slots.
-fn slots_ticks(plan: Plan, slots: u64) -> u64
-    requires { ⌜ (slots ≤ 4096) × (1 ≤ slots) ⌝ }
-    ensures { λ r. ⌜ (r ≡ slots * plan .ticks .0) × (plan .ticks .0 ≤ r) × (r ≤ 1044480) ⌝ }
+fn slots_ticks(plan: Plan, slots: Slot) -> u64
+    requires { ⌜ (slots .0 ≤ 4096) × (1 ≤ slots .0) ⌝ }
+    ensures { λ r. ⌜ (r ≡ slots .0 * plan .ticks .0) × (plan .ticks .0 ≤ r) × (r ≤ 1044480) ⌝ }
 {
-    slots * plan.ticks.0 as u64
+    slots.0 as u64 * plan.ticks.0 as u64
 }
 
 fn sides_one(plan: Plan, gap: Slot) -> Sides
     requires { ⌜ (Sound plan) × (1 ≤ gap .0) × (gap .0 < plan .frame .0) ⌝ }
     ensures { λ r. ⌜ r ≡ sidesAt plan (gap .0) One ⌝ }
 {
-    let ticks = slots_ticks(plan, gap.0 as u64);
+    let ticks = slots_ticks(plan, gap);
     Sides {
         left: ticks_at(ticks - plan.guard.0 as u64, plan.max),
         right: ticks_at(ticks - 1, plan.min),
@@ -72,8 +72,8 @@ fn sides_two(plan: Plan, gap: Slot) -> Sides
     requires { ⌜ (Sound plan) × (1 ≤ gap .0) × (gap .0 < plan .frame .0) ⌝ }
     ensures { λ r. ⌜ r ≡ sidesAt plan (gap .0) Two ⌝ }
 {
-    let ticks = slots_ticks(plan, gap.0 as u64);
-    let more = slots_ticks(plan, gap.0 as u64 + 1);
+    let ticks = slots_ticks(plan, gap);
+    let more = slots_ticks(plan, Slot(gap.0 + 1));
     Sides {
         left: ticks_at(ticks, plan.max),
         right: ticks_at(more - plan.guard.0 as u64 - 2, plan.min),

@@ -11,36 +11,36 @@ use plan::Node;
 use plan::Plan;
 
 // The lowest sending node; N where none is sending.
-fn first_sending(plan: Plan, run: Run) -> usize
+fn first_sending(plan: Plan, run: Run) -> Node
     requires { ⌜ Sound plan ⌝ }
-    ensures { λ r. ⌜ r ≡ firstBelow (plan .nodes .0) (λ i. isSending (node run i .mode)) ⌝ }
+    ensures { λ r. ⌜ r .0 ≡ firstBelow (plan .nodes .0) (λ i. isSending (node run i .mode)) ⌝ }
 {
     let n = plan.nodes.0 as usize;
     for i in 0..n {
         let node = run.nodes[i];
         let mode = node.mode;
         if is_sending(mode) {
-            return i;
+            return Node(i as u32);
         }
     }
-    n
+    plan.nodes
 }
 
 // The lowest node in another slot than node i; N where there is none.
-fn first_elsewhere(plan: Plan, run: Run, i: usize) -> usize
+fn first_elsewhere(plan: Plan, run: Run, i: Node) -> Node
     requires { ⌜ Sound plan ⌝ }
-    requires { ⌜ i < plan .nodes .0 ⌝ }
-    ensures { λ r. ⌜ r ≡ firstBelow (plan .nodes .0) (elsewhere run i) ⌝ }
+    requires { ⌜ i .0 < plan .nodes .0 ⌝ }
+    ensures { λ r. ⌜ r .0 ≡ firstBelow (plan .nodes .0) (elsewhere run (i .0)) ⌝ }
 {
     let n = plan.nodes.0 as usize;
-    let sender = run.nodes[i];
+    let sender = run.nodes[i.0 as usize];
     for j in 0..n {
         let node = run.nodes[j];
         if node.slot.0 != sender.slot.0 {
-            return j;
+            return Node(j as u32);
         }
     }
-    n
+    plan.nodes
 }
 
 // The out-of-step test of a plan that passed 1 to 9.
@@ -48,16 +48,15 @@ pub fn apart_tested(plan: Plan, run: Run) -> Apart
     requires { ⌜ Sound plan ⌝ }
     ensures { λ r. ⌜ r ≡ apartTested plan run ⌝ }
 {
-    let n = plan.nodes.0 as usize;
     let i = first_sending(plan, run);
-    if n <= i {
+    if plan.nodes.0 <= i.0 {
         return Apart::InStep;
     }
     let j = first_elsewhere(plan, run, i);
-    if n <= j {
+    if plan.nodes.0 <= j.0 {
         return Apart::InStep;
     }
-    Apart::Out(Node(i as u32), Node(j as u32))
+    Apart::Out(i, j)
 }
 
 pub fn is_out_of_step(plan: Plan, run: Run) -> bool

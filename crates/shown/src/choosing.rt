@@ -23,15 +23,15 @@ use run::Run;
 use run::Step;
 
 // The time to a node's due moment, or `least` if that is less.
-fn nearer(least: u32, due: Time, time: Time) -> u32
-    ensures { λ r. ⌜ r ≡ min least (due .0 - time .0) ⌝ }
+fn nearer(least: Time, due: Time, time: Time) -> Time
+    ensures { λ r. ⌜ r .0 ≡ min (least .0) (due .0 - time .0) ⌝ }
 {
     if due.0 <= time.0 {
-        return 0;
+        return Time(0);
     }
     let left = due.0 - time.0;
-    if left < least {
-        return left;
+    if left < least.0 {
+        return Time(left);
     }
     least
 }
@@ -41,13 +41,13 @@ fn time_to_due(plan: Plan, parts: Parts, run: Run, mark: Mark) -> Time
     requires { ⌜ Sound plan ⌝ }
     ensures { λ r. ⌜ r .0 ≡ timeToDue plan parts (record { run = run; mark = mark }) ⌝ }
 {
-    let mut least = plan.max.0;
+    let mut least = plan.max;
     for i in 0..plan.nodes.0 {
         let state = run.nodes[i as usize];
         let due = due_time(plan, parts, mark, Node(i));
         least = nearer(least, due, state.time);
     }
-    Time(least)
+    least
 }
 
 // A node about to send sends; else a due node ticks; else a delay to the first due moment.

@@ -1,7 +1,6 @@
 // Who plays which part, from the distances of a tested plan: loops over the nodes, none over the frame.
 ghost use mathlib.Core.Path.{_≡_};
 ghost use mathlib.Core.Bool.{cond, not, _&&_};
-ghost use Prim.Native.Nat.{min};
 ghost use lib.Dec.{eqb};
 ghost use Rattle.laws.specs.Below.{firstBelow};
 ghost use Rattle.plan.specs.Tested.{planNumber, Sound};
@@ -11,28 +10,20 @@ ghost use Rattle.shown.specs.Parts.{widestFrom, widestNode, senderIn, si
 use crate::Parts;
 use gap::Distances;
 use gap::NodeDistance;
+use gap::smaller;
 use plan::Node;
 use plan::Plan;
 use plan::Slot;
 use rules::Rule;
 
-fn smaller(a: u16, b: u16) -> u16
-    ensures { λ r. ⌜ r ≡ min a b ⌝ }
-{
-    if b < a {
-        return b;
-    }
-    a
-}
-
 // The predecessor of a node's sending slot where its D is M; C, which is no slot, where it is not.
-fn predecessor_at(node: NodeDistance, gap: Slot, frame: Slot) -> u16
-    ensures { λ r. ⌜ r ≡ cond (eqb (node .distance .0) (gap .0)) (node .predecessor .0) (frame .0) ⌝ }
+fn predecessor_at(node: NodeDistance, gap: Slot, frame: Slot) -> Slot
+    ensures { λ r. ⌜ r .0 ≡ cond (eqb (node .distance .0) (gap .0)) (node .predecessor .0) (frame .0) ⌝ }
 {
     if node.distance.0 == gap.0 {
-        return node.predecessor.0;
+        return node.predecessor;
     }
-    frame.0
+    frame
 }
 
 // p of rules 1 and 2.
@@ -43,12 +34,12 @@ fn widest_from(plan: Plan, distances: Distances, gap: Slot) -> Slot
     ensures { λ r. ⌜ r .0 ≡ widestFrom plan ⌝ }
 {
     let nodes = plan.nodes.0 as usize;
-    let mut least = plan.frame.0;
+    let mut least = plan.frame;
     for i in 0..nodes {
         let node = distances.nodes[i];
         least = smaller(least, predecessor_at(node, gap, plan.frame));
     }
-    Slot(least)
+    least
 }
 
 // The node that sends in s of rules 1 and 2.
@@ -62,7 +53,8 @@ fn widest_node(plan: Plan, distances: Distances, gap: Slot, from: Slot) -> Node
     let nodes = plan.nodes.0 as usize;
     for i in 0..nodes {
         let node = distances.nodes[i];
-        if predecessor_at(node, gap, plan.frame) == from.0 {
+        let predecessor = predecessor_at(node, gap, plan.frame);
+        if predecessor.0 == from.0 {
             return Node(i as u32);
         }
     }

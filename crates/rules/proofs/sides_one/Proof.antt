@@ -3,9 +3,6 @@ use borrow.Author.Needs.{needs}
 use Rattle.rules.proofs.sides_one.Statement.{statement}
 use Rattle.rules.proofs.sides_one.Tie as tie
 
-cast-slots-ticks : tie.Need-cast-slots-ticks
-cast-slots-ticks c = search needs
-
 slots-ticks-requires : tie.Need-slots-ticks-requires
 slots-ticks-requires c κs = search needs
 
@@ -32,7 +29,6 @@ pub sides-one-spec : {M : Type 1} → statement M
 sides-one-spec =
     tie.close
     (tie.spec
-    cast-slots-ticks
     slots-ticks-requires
     cast-ticks-at
     sub-ticks-at

@@ -3,17 +3,11 @@ use borrow.Author.Needs.{needs}
 use Rattle.rules.proofs.sides_two.Statement.{statement}
 use Rattle.rules.proofs.sides_two.Tie as tie
 
-cast-slots-ticks : tie.Need-cast-slots-ticks
-cast-slots-ticks c = search needs
-
 slots-ticks-requires : tie.Need-slots-ticks-requires
 slots-ticks-requires c κs = search needs
 
-cast-slots-ticks-2 : tie.Need-cast-slots-ticks-2
-cast-slots-ticks-2 c = search needs
-
-add-slots-ticks : tie.Need-add-slots-ticks
-add-slots-ticks c = search needs
+add-t5 : tie.Need-add-t5
+add-t5 c = search needs
 
 slots-ticks-requires-2 : tie.Need-slots-ticks-requires-2
 slots-ticks-requires-2 c κs = search needs
@@ -41,10 +35,8 @@ pub sides-two-spec : {M : Type 1} → statement M
 sides-two-spec =
     tie.close
     (tie.spec
-    cast-slots-ticks
     slots-ticks-requires
-    cast-slots-ticks-2
-    add-slots-ticks
+    add-t5
     slots-ticks-requires-2
     ticks-at-requires
     cast-ticks-at

@@ -10,13 +10,16 @@ use Rattle.rules.proofs.slots_ticks.Tie as tie
 cast-result : tie.Need-cast-result
 cast-result c = search needs
 
+cast-result-2 : tie.Need-cast-result-2
+cast-result-2 c = search needs
+
 mul-result : tie.Need-mul-result
 mul-result c = fits-product 4096 255 (omega arith) (search needs) tt
 
 returns : tie.Need-returns
-returns c = let a = c .before .args in
+returns c = let a = c .before .before .args in
     let k : a .plan .ticks .0 ≤ 255 = search needs in
-    (refl, omega (arith, mul-le-mul-right (a .plan .ticks .0) (c .before .pre .1)), mul-le-mul (c .before .pre .0) k)
+    (refl, omega (arith, mul-le-mul-right (a .plan .ticks .0) (c .before .before .pre .1)), mul-le-mul (c .before .before .pre .0) k)
 
 pub slots-ticks-spec : {M : Type 1} → statement M
-slots-ticks-spec = tie.close (tie.spec cast-result mul-result returns)
+slots-ticks-spec = tie.close (tie.spec cast-result cast-result-2 mul-result returns)

@@ -10,10 +10,10 @@ use Rattle.run.proofs.elsewhere.first_sending.Statement.{statement}
 use Rattle.run.proofs.elsewhere.first_sending.Tie as tie
 
 abbrev Inv-loop : tie.InvT-loop
-Inv-loop run n i₀ i = (i ≤ n) × ((k : ℕ) → k < i → isSending (node run k .mode) ≡ false)
+Inv-loop plan run n i₀ i = (i ≤ n) × ((k : ℕ) → k < i → isSending (node run k .mode) ≡ false)
 
 abbrev μ-loop : tie.MeasureT-loop
-μ-loop run n i₀ i = n - i
+μ-loop plan run n i₀ i = n - i
 
 cast-n : tie.Need-cast-n Inv-loop μ-loop
 cast-n c = search needs
@@ -29,6 +29,9 @@ element-copy-out-node c = search needs
 
 is-sending-requires : tie.Need-is-sending-requires Inv-loop μ-loop
 is-sending-requires c κs = search needs
+
+cast-t14 : tie.Need-cast-t14 Inv-loop μ-loop
+cast-t14 c = search needs
 
 returns : tie.Need-returns Inv-loop μ-loop
 returns c =
@@ -47,8 +50,8 @@ loop-again c = (search needs, before-more _ _ (c .before .before .before .before
 
 returns-2 : tie.Need-returns-2 Inv-loop μ-loop
 returns-2 c =
-    let a = c .before .before .before .args in
-    sym (first-none (a .plan .nodes .0) (λ k. isSending (node (a .t2) k .mode)) (λ k l. c .before .loop .inv .1 k (omega arith)))
+    let a = c .before .before .before .before .args in
+    sym (first-none (a .plan .nodes .0) (λ k. isSending (node (a .t2) k .mode)) (λ k l. c .before .before .loop .inv .1 k (omega arith)))
 
 pub first-sending-spec : {M : Type 1} → statement M
 first-sending-spec =
@@ -61,6 +64,7 @@ first-sending-spec =
     mul-node
     element-copy-out-node
     is-sending-requires
+    cast-t14
     returns
     add-i
     loop-less

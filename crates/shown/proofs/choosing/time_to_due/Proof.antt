@@ -10,7 +10,7 @@ use Rattle.shown.proofs.choosing.time_to_due.Statement.{statement}
 use Rattle.shown.proofs.choosing.time_to_due.Tie as tie
 
 abbrev Inv-loop : tie.InvT-loop
-Inv-loop plan parts mark run least₀ i₀ end least i = (i ≤ plan .nodes .0) × (least ≡ leastBelow (plan .max .0) i (λ k. dueTime plan parts mark k - node run k .time .0))
+Inv-loop plan parts mark run least₀ i₀ end least i = (i ≤ plan .nodes .0) × (least .0 ≡ leastBelow (plan .max .0) i (λ k. dueTime plan parts mark k - node run k .time .0))
 
 abbrev μ-loop : tie.MeasureT-loop
 μ-loop plan parts mark run least₀ i₀ end least i = plan .nodes .0 - i
@@ -41,13 +41,13 @@ loop-less c = search needs
 
 loop-again : tie.Need-loop-again Inv-loop μ-loop
 loop-again c =
-    let a = c .before .before .before .before .before .args in
+    let a = c .before .before .before .before .before .before .args in
     let l = c .before .before .before .before .loop in
     (search needs, c .nearer .ensures ∙ rw (l .inv .1, c .before .due-time .ensures) (sym (least-more (a .plan .max .0) (l .i) (λ k. dueTime (a .plan) (a .parts) (a .mark) k - node (a .t3) k .time .0))))
 
 returns : tie.Need-returns Inv-loop μ-loop
 returns c =
-    let a = c .before .before .args in
+    let a = c .before .before .before .args in
     let l = c .before .loop in
     let e : l .i ≡ a .plan .nodes .0 = omega arith in
     l .inv .1 ∙ ap (λ (n : ℕ). leastBelow (a .plan .max .0) n (λ k. dueTime (a .plan) (a .parts) (a .mark) k - node (a .t3) k .time .0)) e

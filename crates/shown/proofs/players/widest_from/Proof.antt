@@ -11,7 +11,7 @@ use Rattle.shown.proofs.players.widest_from.Statement.{statement}
 use Rattle.shown.proofs.players.widest_from.Tie as tie
 
 abbrev Inv-loop : tie.InvT-loop
-Inv-loop plan gap distances nodes least₀ i₀ least i = (i ≤ nodes) × (least ≡ leastBelow (plan .frame .0) i (predecessorAt plan (gapOf plan)))
+Inv-loop plan gap distances nodes least₀ i₀ least i = (i ≤ nodes) × (least .0 ≡ leastBelow (plan .frame .0) i (predecessorAt plan (gapOf plan)))
 
 abbrev μ-loop : tie.MeasureT-loop
 μ-loop plan gap distances nodes least₀ i₀ least i = nodes - i
@@ -42,7 +42,7 @@ loop-less c = search needs
 
 loop-again : tie.Need-loop-again Inv-loop μ-loop
 loop-again c =
-    let s = c .before .before .before .before .before .before in
+    let s = c .before .before .before .before .before .before .before in
     let a = s .args in
     let l = c .before .before .before .before .loop in
     let held = predecessor-held (a .plan) (a .t2) (a .gap .0) (s .pre .1 .0) (s .pre .1 .1) (l .i) (search needs) (search needs) in
@@ -51,7 +51,7 @@ loop-again c =
 returns : tie.Need-returns Inv-loop μ-loop
 unfolding widestFrom
 returns c =
-    let a = c .before .before .before .args in
+    let a = c .before .before .before .before .args in
     let l = c .before .loop in
     let e : l .i ≡ a .plan .nodes .0 = omega arith in
     l .inv .1 ∙ ap (λ (n : ℕ). leastBelow (a .plan .frame .0) n (predecessorAt (a .plan) (gapOf (a .plan)))) e

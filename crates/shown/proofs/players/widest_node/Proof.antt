@@ -39,11 +39,11 @@ cast-t15 c = search needs
 returns : tie.Need-returns Inv-loop μ-loop
 unfolding widestNode
 returns c =
-    let s = c .before .before .before .before .before .before .before in
+    let s = c .before .before .before .before .before .before .before .before in
     let a = s .args in
-    let l = c .before .before .before .before .before .loop in
+    let l = c .before .before .before .before .before .before .loop in
     let held = predecessor-held (a .plan) (a .t2) (a .gap .0) (s .pre .1 .0) (s .pre .1 .1 .0) (l .i) (search needs) (search needs) in
-    sym (first-at (a .plan .nodes .0) (l .i) (λ k. eqb (predecessorAt (a .plan) (gapOf (a .plan)) k) (widestFrom (a .plan))) (search needs) (l .inv .1) (eq-eqb _ _ (sym held ∙ sym (c .before .before .predecessor-at .ensures) ∙ c .if1 .taken ∙ s .pre .1 .1 .1)))
+    sym (first-at (a .plan .nodes .0) (l .i) (λ k. eqb (predecessorAt (a .plan) (gapOf (a .plan)) k) (widestFrom (a .plan))) (search needs) (l .inv .1) (eq-eqb _ _ (sym held ∙ sym (c .before .before .before .predecessor-at .ensures) ∙ c .if1 .taken ∙ s .pre .1 .1 .1)))
 
 add-i : tie.Need-add-i Inv-loop μ-loop
 add-i c = search needs
@@ -53,11 +53,11 @@ loop-less c = search needs
 
 loop-again : tie.Need-loop-again Inv-loop μ-loop
 loop-again c =
-    let s = c .before .before .before .before .before .before .before in
+    let s = c .before .before .before .before .before .before .before .before in
     let a = s .args in
-    let l = c .before .before .before .before .before .loop in
+    let l = c .before .before .before .before .before .before .loop in
     let held = predecessor-held (a .plan) (a .t2) (a .gap .0) (s .pre .1 .0) (s .pre .1 .1 .0) (l .i) (search needs) (search needs) in
-    (search needs, before-more (λ k. eqb (predecessorAt (a .plan) (gapOf (a .plan)) k) (widestFrom (a .plan))) (l .i) (l .inv .1) (ne-eqb _ _ (λ e. c .if1 .left (c .before .before .predecessor-at .ensures ∙ held ∙ e ∙ sym (s .pre .1 .1 .1)))))
+    (search needs, before-more (λ k. eqb (predecessorAt (a .plan) (gapOf (a .plan)) k) (widestFrom (a .plan))) (l .i) (l .inv .1) (ne-eqb _ _ (λ e. c .if1 .left (c .before .before .before .predecessor-at .ensures ∙ held ∙ e ∙ sym (s .pre .1 .1 .1)))))
 
 returns-2 : tie.Need-returns-2 Inv-loop μ-loop
 unfolding widestNode
