@@ -1,0 +1,4 @@
+pub mod Next
+pub mod Plays
+pub mod Together
+pub mod Sample

@@ -1,0 +1,96 @@
+-- Steps in a row that the shown run gives from a place, where they lead, and what nodes do in number order.
+use Prim.Native.Nat.{ℕ, zero, suc, _+_, _≤_, _<_}
+use mathlib.Core.Path.{_≡_, refl, sym, ap, _∙_}
+use mathlib.Core.Bool.{Bool, true, false, cond}
+use mathlib.Core.List.{List, [], _∷_, _++_}
+use native.Mathlib.Nat.{zero-add, suc-add}
+use native.Mathlib.Omega.{arith}
+use lib.ListN.{length}
+use Rattle.plan.specs.declared.Plan.{Plan}
+use Rattle.plan.specs.Tested.{planNumber, Sound}
+use Rattle.run.specs.declared.Run.{Run}
+use Rattle.run.specs.declared.Step.{Step}
+use Rattle.run.specs.declared.Stepped.{Stepped}
+use Rattle.run.specs.State.{inRange, outOfStep}
+use Rattle.run.specs.Moves.{moved}
+use Rattle.run.specs.Steps.{stepOf, runAfter}
+use Rattle.run.proofs.Legal.{step-legal, step-done}
+use Rattle.shown.specs.declared.Mark.{Mark}
+use Rattle.shown.specs.declared.Place.{Place}
+use Rattle.shown.specs.declared.Parts.{Parts}
+use Rattle.shown.specs.declared.Given.{Given}
+use Rattle.shown.specs.declared.Next.the-variants.{Takes}
+use Rattle.shown.specs.Shown.{nextStep, placeAfter, givenBy, givenOf, placeAt, shownSteps}
+use Rattle.shown.proofs.Play.{OnTime, Move, on-time, next-move, move-legal}
+use Rattle.shown.proofs.Giving.{given-takes}
+use Rattle.shown.proofs.Progress.{Kept, kept-after}
+use Rattle.shown_rounds.specs.Rounds.{inOrderFrom}
+
+-- the steps are given one after the other from q, and lead to z
+abbrev pub Plays : Plan → Place → List Step → Place → Type 0
+Plays P q [] z = q ≡ z
+Plays P q (s ∷ steps) z = (givenOf P q .next ≡ Takes s) × (stepOf P (q .run) s .run ≡ givenOf P q .place .run) × Plays P (givenOf P q .place) steps z
+
+module _ (P : Plan) where
+  plays-then : (a b : List Step) (q y z : Place) → Plays P q a y → Plays P y b z → Plays P q (a ++ b) z
+  plays-then [] b q y z h k = rw h k
+  plays-then (s ∷ a) b q y z h k = (h .0, h .1, plays-then a b (givenOf P q .place) y z (h .2) k)
+
+  pub plays-shown : (steps : List Step) (q z : Place) → Plays P q steps z → (more : ℕ) → shownSteps P (length steps + more) q ≡ steps ++ shownSteps P more z
+  plays-shown [] q z h more = rw (h, zero-add)
+  plays-shown (s ∷ steps) q z h more = rw (suc-add, h .0) (ap (λ (l : List Step). s ∷ l) (plays-shown steps (givenOf P q .place) z (h .2) more))
+
+  pub plays-place : (steps : List Step) (q z : Place) → Plays P q steps z → placeAt P (length steps) q ≡ z
+  plays-place [] q z h = h
+  plays-place (s ∷ steps) q z h = plays-place steps (givenOf P q .place) z (h .2)
+
+  pub plays-run : (steps : List Step) (q z : Place) → Plays P q steps z → runAfter P (q .run) steps ≡ z .run
+  plays-run [] q z h = ap (λ (p : Place). p .run) h
+  plays-run (s ∷ steps) q z h = rw (h .1) (plays-run steps (givenOf P q .place) z (h .2))
+
+  -- the steps lead from q to a run of which J holds, with the mark m
+  pub record Leads (q : Place) (steps : List Step) (m : Mark) (J : Run → Type 0) : Type 0 where
+    pub to : Run
+    pub plays : Plays P q steps (record { run = to; mark = m })
+    pub holds : J to
+
+  pub leads-then : {q : Place} {a b : List Step} {m k : Mark} {J K : Run → Type 0} → Leads q a m J → ((r : Run) → J r → Leads (record { run = r; mark = m }) b k K) → Leads q (a ++ b) k K
+  leads-then {q} {a} {b} {m} {k} h more =
+      let g = more (h .to) (h .holds) in
+      record { to = g .to; plays = plays-then a b q (record { run = h .to; mark = m }) (record { run = g .to; mark = k }) (h .plays) (g .plays); holds = g .holds }
+
+  -- each node that passes does its steps in number order, and so does the next
+  module _ (f : ℕ → Bool) (does : ℕ → List Step) (m : Mark) (J : ℕ → Run → Type 0)
+      (acts : (i : ℕ) (r : Run) → i < P .nodes .0 → f i ≡ true → J i r → Leads (record { run = r; mark = m }) (does i) m (J (suc i)))
+      (skips : (i : ℕ) (r : Run) → i < P .nodes .0 → f i ≡ false → J i r → J (suc i) r) where
+    pub in-order : (left i : ℕ) → i + left ≡ P .nodes .0 → (r : Run) → J i r → Leads (record { run = r; mark = m }) (inOrderFrom f does left i) m (J (P .nodes .0))
+    unfolding inOrderFrom
+    in-order zero i e r h = let z : i ≡ P .nodes .0 = omega arith in record { to = r; plays = refl; holds = rw z at h }
+    in-order (suc left) i e r h = leads-then (one (f i) refl) (in-order left (suc i) (omega arith))
+      where
+        one : (b : Bool) → f i ≡ b → Leads (record { run = r; mark = m }) (cond b (does i) []) m (J (suc i))
+        one true t = acts i r (omega arith) t h
+        one false t = record { to = r; plays = refl; holds = skips i r (omega arith) t h }
+
+-- the step s is given at q, and done
+pub record Taken (P : Plan) (c : Parts) (q : Place) (s : Step) : Type 0 where
+  pub move : Move P c q s
+  pub given : givenOf P q ≡ record { next = Takes s; place = placeAfter P c q s }
+  pub done : stepOf P (q .run) s .run ≡ moved P (q .run) s
+  pub kept : Kept P (moved P (q .run) s)
+
+pub takes-then : (P : Plan) (c : Parts) (q : Place) (s : Step) (steps : List Step) (m : Mark) (J : Run → Type 0) → Taken P c q s → Leads P (placeAfter P c q s) steps m J → Leads P q (s ∷ steps) m J
+takes-then P c q s steps m J t h = record { to = h .to; plays = rw (t .given) (refl, t .done, h .plays); holds = h .holds }
+
+module _ (P : Plan) (c : Parts) (o : Sound P) (plain : planNumber P ≡ 0) (by-parts : (q : Place) → inRange P (q .run) ≡ true → givenOf P q ≡ givenBy P c q) where
+  pub takes : (q : Place) (s : Step) → Kept P (q .run) → OnTime P c q → outOfStep P (q .run) ≡ false → nextStep P c q ≡ s → Taken P c q s
+  takes q s k t e n =
+      let move : Move P c q s = rw n at (next-move P c o q t) in
+      let legal = move-legal P c o q s (k .range) e move in
+      let number = step-legal P (q .run) s legal in
+      record {
+        move = move;
+        given = by-parts q (k .range) ∙ given-takes P c q s n e (on-time P c o q t) number;
+        done = ap (λ (a : Stepped). a .run) (step-done P (q .run) s plain number);
+        kept = kept-after P c o plain by-parts q s k legal;
+      }
