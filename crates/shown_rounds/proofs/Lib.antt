@@ -1,4 +1,5 @@
 pub mod Next
 pub mod Plays
 pub mod Together
+pub mod Before
 pub mod Sample

@@ -46,9 +46,9 @@ module _ (P : Plan) (c : Parts) (q : Place) where
   none-due : NoneDue → ltb (lowestDue P c q) (P .nodes .0) ≡ false
   none-due h = past (lowestDue P c q) (first-none (P .nodes .0) (isDue P c q) (λ k l. not-so (isDue P c q k) (λ e. h k l (due-is k e))))
 
-  pub next-wait : Quiet P q → NoneFirst P c q → NoneSecond P c q → NoneDue → nextStep P c q ≡ Delay (record { 0 = timeToDue P c q })
+  pub next-wait : Quiet P q → NoneDue → nextStep P c q ≡ Delay (record { 0 = timeToDue P c q })
   unfolding nextStep
-  next-wait a n m d = rw (none-about a, none-first n, none-second m, none-due d)
+  next-wait a d = rw (none-about a, none-first (λ k l e. absurd (d k l e)), none-second (λ k l e. absurd (d k l e)), none-due d)
 
   -- node i's turn
   module _ (i : ℕ) (below : i < P .nodes .0) where
