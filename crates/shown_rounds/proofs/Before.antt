@@ -282,7 +282,7 @@ module _ {P : Plan} {c : Parts} (o : Sound P) (R : Roles P c) (plain : planNumbe
   -- the whole round
 
   module _ (T : ℕ) (r : Run) (s : Rest P c T r) where
-    rest-number : s .early .number ≡ T
+    pub rest-number : s .early .number ≡ T
     rest-number =
         let zero-in : 0 < P .nodes .0 = omega (arith, o .nodes-low) in
         let h = s .nodes 0 zero-in in

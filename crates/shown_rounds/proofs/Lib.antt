@@ -2,4 +2,5 @@ pub mod Next
 pub mod Plays
 pub mod Together
 pub mod Before
+pub mod Pivot
 pub mod Sample
