@@ -44,7 +44,7 @@ module _ (P : Plan) where
   plays-place [] q z h = h
   plays-place (s ∷ steps) q z h = plays-place steps (givenOf P q .place) z (h .2)
 
-  pub plays-run : (steps : List Step) (q z : Place) → Plays P q steps z → runAfter P (q .run) steps ≡ z .run
+  plays-run : (steps : List Step) (q z : Place) → Plays P q steps z → runAfter P (q .run) steps ≡ z .run
   plays-run [] q z h = ap (λ (p : Place). p .run) h
   plays-run (s ∷ steps) q z h = rw (h .1) (plays-run steps (givenOf P q .place) z (h .2))
 
@@ -54,10 +54,17 @@ module _ (P : Plan) where
     pub plays : Plays P q steps (record { run = to; mark = m })
     pub holds : J to
 
-  pub leads-then : {q : Place} {a b : List Step} {m k : Mark} {J K : Run → Type 0} → Leads q a m J → ((r : Run) → J r → Leads (record { run = r; mark = m }) b k K) → Leads q (a ++ b) k K
-  leads-then {q} {a} {b} {m} {k} h more =
-      let g = more (h .to) (h .holds) in
+  -- that run is the one after the steps
+  pub leads-run : {q : Place} {steps : List Step} {m : Mark} {J : Run → Type 0} (h : Leads q steps m J) → runAfter P (q .run) steps ≡ h .to
+  leads-run {q} {steps} {m} h = plays-run steps q (record { run = h .to; mark = m }) (h .plays)
+
+  -- more steps from there
+  pub leads-after : {q : Place} {a b : List Step} {m k : Mark} {J K : Run → Type 0} (h : Leads q a m J) → Leads (record { run = h .to; mark = m }) b k K → Leads q (a ++ b) k K
+  leads-after {q} {a} {b} {m} {k} h g =
       record { to = g .to; plays = plays-then a b q (record { run = h .to; mark = m }) (record { run = g .to; mark = k }) (h .plays) (g .plays); holds = g .holds }
+
+  pub leads-then : {q : Place} {a b : List Step} {m k : Mark} {J K : Run → Type 0} → Leads q a m J → ((r : Run) → J r → Leads (record { run = r; mark = m }) b k K) → Leads q (a ++ b) k K
+  leads-then h more = leads-after h (more (h .to) (h .holds))
 
   -- each node that passes does its steps in number order, and so does the next
   module _ (f : ℕ → Bool) (does : ℕ → List Step) (m : Mark) (J : ℕ → Run → Type 0)
