@@ -32,7 +32,8 @@ use Rattle.shown.proofs.Rounds.{earlier, pivotCount, Early, due-before, early-d
 use Rattle.shown.proofs.Dawn.{pivot-not, early-delay}
 use Rattle.shown_rounds.specs.Rounds.{ticks, ticksAndSends, inOrder, roundBefore}
 use Rattle.shown_rounds.proofs.Next.{next-wait, next-send, next-first, next-second}
-use Rattle.shown_rounds.proofs.Plays.{Leads, leads-then, in-order, Taken, takes-then, takes}
+use Rattle.shown_rounds.proofs.Plays.{Leads, leads-then, leads-nowhere, Taken, takes-then, takes}
+use Rattle.shown_rounds.proofs.InOrder.{in-order}
 use Rattle.shown_rounds.proofs.Together.{round-in-step}
 
 -- a node that has had the tick of round T
@@ -178,7 +179,7 @@ module _ {P : Plan} {c : Parts} (o : Sound P) (R : Roles P c) (plain : planNumbe
 
     first-pass : (now : Run) → Stage P c T r (λ k. true) now → Leads P (earlier now) (inOrder P (λ i. not (turns P r i)) ticks) Before (Stage P c T r (turns P r))
     first-pass now s =
-        let z = in-order P (λ i. not (turns P r i)) ticks Before (λ i. Stage P c T r (dueFirst P r i)) acts-first skips-first (P .nodes .0) 0 (omega arith) now (due-same (λ k. true) (dueFirst P r 0) now (λ k l. at-first k) s) in
+        let z = in-order P (Leads P) (leads-nowhere P) (λ q a b m k J K. leads-then P) (λ i. not (turns P r i)) ticks Before (λ i. Stage P c T r (dueFirst P r i)) acts-first skips-first (P .nodes .0) 0 (omega arith) now (due-same (λ k. true) (dueFirst P r 0) now (λ k l. at-first k) s) in
         record { to = z .to; plays = z .plays; holds = due-same (dueFirst P r (P .nodes .0)) (turns P r) (z .to) (λ k l. at-last k l (turns P r k) refl) (z .holds) }
       where
         at-first : (k : ℕ) → dueFirst P r 0 k ≡ true
@@ -262,7 +263,7 @@ module _ {P : Plan} {c : Parts} (o : Sound P) (R : Roles P c) (plain : planNumbe
 
     second-pass : (now : Run) → Stage P c T r (turns P r) now → Leads P (earlier now) (inOrder P (turns P r) ticksAndSends) Before (Rest P c T)
     second-pass now s =
-        let z = in-order P (turns P r) ticksAndSends Before (λ i. Stage P c T r (dueSecond P r i)) acts-second skips-second (P .nodes .0) 0 (omega arith) now (due-same (turns P r) (dueSecond P r 0) now (λ k l. at-first k) s) in
+        let z = in-order P (Leads P) (leads-nowhere P) (λ q a b m k J K. leads-then P) (turns P r) ticksAndSends Before (λ i. Stage P c T r (dueSecond P r i)) acts-second skips-second (P .nodes .0) 0 (omega arith) now (due-same (turns P r) (dueSecond P r 0) now (λ k l. at-first k) s) in
         record { to = z .to; plays = z .plays; holds = rest (z .to) (z .holds) }
       where
         at-first : (k : ℕ) → dueSecond P r 0 k ≡ turns P r k

@@ -35,7 +35,8 @@ use Rattle.shown.proofs.Rounds.{earlier, pivotCount, Turned, due-lacks, about-t
 use Rattle.shown.proofs.Dawn.{within, Eve, Dawn, due-in, pivot-is, eve-begins, eve-on-time, eve-tick, eve-send, dawn-on-time}
 use Rattle.shown_rounds.specs.Rounds.{ticks, ticksAndSends, inOrder, neither, pivotRound}
 use Rattle.shown_rounds.proofs.Next.{next-send, next-first, next-second, next-third}
-use Rattle.shown_rounds.proofs.Plays.{Leads, leads-then, in-order, Taken, takes-then, takes}
+use Rattle.shown_rounds.proofs.Plays.{Leads, leads-then, leads-nowhere, Taken, takes-then, takes}
+use Rattle.shown_rounds.proofs.InOrder.{in-order}
 use Rattle.shown_rounds.proofs.Together.{round-in-step, dawn-in-step}
 use Rattle.shown_rounds.proofs.Before.{Rest, from-self, from-next, from-other, rest-number, waits-min}
 
@@ -148,7 +149,7 @@ module _ {P : Plan} {c : Parts} (o : Sound P) (R : Roles P c) (plain : planNumbe
 
   pass : (r : Run) → Waits P c (λ k. true) r → Leads P (within r) (inOrder P (neither c) ticks) In (Waits P c (λ k. not (neither c k)))
   pass r s =
-      let z = in-order P (neither c) ticks In (λ i. Waits P c (dueFrom c i)) acts skips (P .nodes .0) 0 (omega arith) r (due-same (λ k. true) (dueFrom c 0) r (λ k l. at-first k) s) in
+      let z = in-order P (Leads P) (leads-nowhere P) (λ q a b m k J K. leads-then P) (neither c) ticks In (λ i. Waits P c (dueFrom c i)) acts skips (P .nodes .0) 0 (omega arith) r (due-same (λ k. true) (dueFrom c 0) r (λ k l. at-first k) s) in
       record { to = z .to; plays = z .plays; holds = due-same (dueFrom c (P .nodes .0)) (λ k. not (neither c k)) (z .to) (λ k l. at-last k l (neither c k) refl) (z .holds) }
     where
       at-first : (k : ℕ) → dueFrom c 0 k ≡ true

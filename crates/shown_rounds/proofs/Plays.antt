@@ -29,24 +29,28 @@ use Rattle.shown_rounds.specs.Rounds.{inOrderFrom}
 -- the steps are given one after the other from q, and lead to z
 abbrev pub Plays : Plan → Place → List Step → Place → Type 0
 Plays P q [] z = q ≡ z
-Plays P q (s ∷ steps) z = (givenOf P q .next ≡ Takes s) × (stepOf P (q .run) s .run ≡ givenOf P q .place .run) × Plays P (givenOf P q .place) steps z
+Plays P q (s ∷ steps) z =
+    (outOfStep P (q .run) ≡ false)
+    × (givenOf P q .next ≡ Takes s)
+    × (stepOf P (q .run) s .run ≡ givenOf P q .place .run)
+    × Plays P (givenOf P q .place) steps z
 
 module _ (P : Plan) where
-  plays-then : (a b : List Step) (q y z : Place) → Plays P q a y → Plays P y b z → Plays P q (a ++ b) z
+  pub plays-then : (a b : List Step) (q y z : Place) → Plays P q a y → Plays P y b z → Plays P q (a ++ b) z
   plays-then [] b q y z h k = rw h k
-  plays-then (s ∷ a) b q y z h k = (h .0, h .1, plays-then a b (givenOf P q .place) y z (h .2) k)
+  plays-then (s ∷ a) b q y z h k = (h .0, h .1, h .2, plays-then a b (givenOf P q .place) y z (h .3) k)
 
   pub plays-shown : (steps : List Step) (q z : Place) → Plays P q steps z → (more : ℕ) → shownSteps P (length steps + more) q ≡ steps ++ shownSteps P more z
   plays-shown [] q z h more = rw (h, zero-add)
-  plays-shown (s ∷ steps) q z h more = rw (suc-add, h .0) (ap (λ (l : List Step). s ∷ l) (plays-shown steps (givenOf P q .place) z (h .2) more))
+  plays-shown (s ∷ steps) q z h more = rw (suc-add, h .1) (ap (λ (l : List Step). s ∷ l) (plays-shown steps (givenOf P q .place) z (h .3) more))
 
   pub plays-place : (steps : List Step) (q z : Place) → Plays P q steps z → placeAt P (length steps) q ≡ z
   plays-place [] q z h = h
-  plays-place (s ∷ steps) q z h = plays-place steps (givenOf P q .place) z (h .2)
+  plays-place (s ∷ steps) q z h = plays-place steps (givenOf P q .place) z (h .3)
 
   plays-run : (steps : List Step) (q z : Place) → Plays P q steps z → runAfter P (q .run) steps ≡ z .run
   plays-run [] q z h = ap (λ (p : Place). p .run) h
-  plays-run (s ∷ steps) q z h = rw (h .1) (plays-run steps (givenOf P q .place) z (h .2))
+  plays-run (s ∷ steps) q z h = rw (h .2) (plays-run steps (givenOf P q .place) z (h .3))
 
   -- the steps lead from q to a run of which J holds, with the mark m
   pub record Leads (q : Place) (steps : List Step) (m : Mark) (J : Run → Type 0) : Type 0 where
@@ -66,28 +70,19 @@ module _ (P : Plan) where
   pub leads-then : {q : Place} {a b : List Step} {m k : Mark} {J K : Run → Type 0} → Leads q a m J → ((r : Run) → J r → Leads (record { run = r; mark = m }) b k K) → Leads q (a ++ b) k K
   leads-then h more = leads-after h (more (h .to) (h .holds))
 
-  -- each node that passes does its steps in number order, and so does the next
-  module _ (f : ℕ → Bool) (does : ℕ → List Step) (m : Mark) (J : ℕ → Run → Type 0)
-      (acts : (i : ℕ) (r : Run) → i < P .nodes .0 → f i ≡ true → J i r → Leads (record { run = r; mark = m }) (does i) m (J (suc i)))
-      (skips : (i : ℕ) (r : Run) → i < P .nodes .0 → f i ≡ false → J i r → J (suc i) r) where
-    pub in-order : (left i : ℕ) → i + left ≡ P .nodes .0 → (r : Run) → J i r → Leads (record { run = r; mark = m }) (inOrderFrom f does left i) m (J (P .nodes .0))
-    unfolding inOrderFrom
-    in-order zero i e r h = let z : i ≡ P .nodes .0 = omega arith in record { to = r; plays = refl; holds = rw z at h }
-    in-order (suc left) i e r h = leads-then (one (f i) refl) (in-order left (suc i) (omega arith))
-      where
-        one : (b : Bool) → f i ≡ b → Leads (record { run = r; mark = m }) (cond b (does i) []) m (J (suc i))
-        one true t = acts i r (omega arith) t h
-        one false t = record { to = r; plays = refl; holds = skips i r (omega arith) t h }
+  pub leads-nowhere : (r : Run) (m : Mark) (J : Run → Type 0) → J r → Leads (record { run = r; mark = m }) [] m J
+  leads-nowhere r m J h = record { to = r; plays = refl; holds = h }
 
 -- the step s is given at q, and done
 pub record Taken (P : Plan) (c : Parts) (q : Place) (s : Step) : Type 0 where
   pub move : Move P c q s
+  pub together : outOfStep P (q .run) ≡ false
   pub given : givenOf P q ≡ record { next = Takes s; place = placeAfter P c q s }
   pub done : stepOf P (q .run) s .run ≡ moved P (q .run) s
   pub kept : Kept P (moved P (q .run) s)
 
 pub takes-then : (P : Plan) (c : Parts) (q : Place) (s : Step) (steps : List Step) (m : Mark) (J : Run → Type 0) → Taken P c q s → Leads P (placeAfter P c q s) steps m J → Leads P q (s ∷ steps) m J
-takes-then P c q s steps m J t h = record { to = h .to; plays = rw (t .given) (refl, t .done, h .plays); holds = h .holds }
+takes-then P c q s steps m J t h = record { to = h .to; plays = rw (t .given) (t .together, refl, t .done, h .plays); holds = h .holds }
 
 module _ (P : Plan) (c : Parts) (o : Sound P) (plain : planNumber P ≡ 0) (by-parts : (q : Place) → inRange P (q .run) ≡ true → givenOf P q ≡ givenBy P c q) where
   pub takes : (q : Place) (s : Step) → Kept P (q .run) → OnTime P c q → outOfStep P (q .run) ≡ false → nextStep P c q ≡ s → Taken P c q s
@@ -97,6 +92,7 @@ module _ (P : Plan) (c : Parts) (o : Sound P) (plain : planNumber P ≡ 0) (by-p
       let number = step-legal P (q .run) s legal in
       record {
         move = move;
+        together = e;
         given = by-parts q (k .range) ∙ given-takes P c q s n e (on-time P c o q t) number;
         done = ap (λ (a : Stepped). a .run) (step-done P (q .run) s plain number);
         kept = kept-after P c o plain by-parts q s k legal;

@@ -14,13 +14,15 @@ use Rattle.plan.specs.Tested.{activeOutside, guardOrTailWrong, minOrMaxWrong, s
 use Rattle.gap.specs.Gap.{nearest, predecessor, distanceBefore, gapOf}
 use Rattle.rules.specs.declared.Rule.{Rule}
 use Rattle.rules.specs.declared.Rule.the-variants.{One, Two}
+use Rattle.run.specs.declared.Run.{Run}
 use Rattle.run.specs.declared.Step.{Step}
 use Rattle.run.specs.declared.Step.the-variants.{Delay, TickOf, SendOf}
 use Rattle.run.specs.State.{freshRun, inRange, sendsApart, outOfStep}
 use Rattle.run.specs.Moves.{clockAfter, modeAfter, slotAfter}
-use Rattle.run.specs.Steps.{stepNumber, stepTested, stepOf}
+use Rattle.run.specs.Steps.{stepNumber, stepTested, stepOf, runAfter}
 use Rattle.shown.specs.Parts.{predecessorAt, widestFrom, widestNode, partsFor}
 use Rattle.shown_rounds.specs.Rounds.{inOrderFrom, roundBefore, pivotRound, roundsBefore, throughPivot}
+use Rattle.shown_rounds.specs.Moments.{atMoment, nextMoment, moments, untilOut}
 
 D : ℕ → Step
 D n = Delay (record { 0 = n })
@@ -59,3 +61,16 @@ Right (w ∷ more) = (throughPivot (w .plan) (partsFor (w .plan) (w .rule)) (w .
 sample-right : Right sample
 unfolding D T S told sample Right firstOf anyBelow allBelow firstFrom largestBelow leastBelow over distance sends activeOutside guardOrTailWrong minOrMaxWrong someNotActive sharesSlot someShared planNumber nearest predecessor distanceBefore gapOf freshRun inRange sendsApart outOfStep clockAfter modeAfter slotAfter stepNumber stepTested stepOf predecessorAt widestFrom widestNode partsFor inOrderFrom roundBefore pivotRound roundsBefore
 sample-right = (refl, (refl, (refl, (refl, tt))))
+
+afterPivot : List Step
+afterPivot = D 1 ∷ T 1 ∷ T 0 ∷ T 2 ∷ D 1 ∷ T 1 ∷ T 0 ∷ T 2 ∷ D 1 ∷ T 1 ∷ T 0 ∷ T 2 ∷ D 1 ∷ T 1 ∷ S 1 ∷ []
+
+P1 : Plan
+P1 = planBy 3 3 3 5 1 2 1 1 (slots (0 ∷ 1 ∷ 2 ∷ []))
+
+r1 : Run
+r1 = runAfter P1 freshRun (throughPivot P1 (partsFor P1 One) 0)
+
+try : untilOut P1 r1 (moments P1 (partsFor P1 One) 6 0 r1) ≡ afterPivot
+unfolding P1 r1 afterPivot D T S firstOf anyBelow allBelow firstFrom largestBelow leastBelow over distance sends activeOutside guardOrTailWrong minOrMaxWrong someNotActive sharesSlot someShared planNumber nearest predecessor distanceBefore gapOf freshRun inRange sendsApart outOfStep clockAfter modeAfter slotAfter stepNumber stepTested stepOf predecessorAt widestFrom widestNode partsFor inOrderFrom roundBefore pivotRound roundsBefore atMoment nextMoment moments untilOut
+try = refl
