@@ -62,6 +62,10 @@ record Moment (P : Plan) (c : Parts) (y : ℕ) (r : Run) (due : ℕ → Bool) (n
   quiet : Quiet P (later now)
   nodes : (k : ℕ) → k < P .nodes .0 → AtTime P c y (turns P r k) (due k) k (node now k)
 
+-- wherever a run comes to
+abbrev pub Anywhere : Run → Type 0
+Anywhere r = Unit {0}
+
 module _ {P : Plan} {c : Parts} (o : Sound P) (R : Roles P c) (plain : planNumber P ≡ 0) (by-parts : (q : Place) → inRange P (q .run) ≡ true → givenOf P q ≡ givenBy P c q) where
   abbrev f : ℕ
   f = c .fast .0
@@ -319,8 +323,6 @@ module _ {P : Plan} {c : Parts} (o : Sound P) (R : Roles P c) (plain : planNumbe
         (fast-acts (y + d) r (delayed P d r) (begun t)) (λ now e. others-act (y + d) r now))
 
   -- k moments
-  abbrev Anywhere : Run → Type 0
-  Anywhere r = Unit {0}
 
   moment-and : (k y : ℕ) (r : Run) → Calm P c y r → ((r : Run) → Calm P c (y + toNearest P y) r → Goes P (later r) (moments P c k (y + toNearest P y) r) After Anywhere)
       → Goes P (later r) (nextMoment P c r y ++ moments P c k (y + toNearest P y) (runAfter P r (nextMoment P c r y))) After Anywhere

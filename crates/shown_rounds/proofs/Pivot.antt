@@ -22,15 +22,17 @@ use Rattle.run.specs.declared.Step.{Step}
 use Rattle.run.specs.declared.Step.the-variants.{Delay, TickOf, SendOf}
 use Rattle.run.specs.State.{node, isAbout, isSending, inRange}
 use Rattle.run.specs.Moves.{delayed, ticked, sent}
+use Rattle.run.proofs.Outcomes.{mode-elsewhere}
 use Rattle.run.proofs.Nodes.{node-ticked, node-still}
 use Rattle.shown.specs.declared.Mark.the-variants.{In, After}
 use Rattle.shown.specs.declared.Place.{Place}
 use Rattle.shown.specs.declared.Parts.{Parts}
-use Rattle.shown.specs.Shown.{goesFirst, goesSecond, nextStep, markAfter, givenBy, givenOf}
+use Rattle.shown.specs.Shown.{turns, goesFirst, goesSecond, nextStep, markAfter, givenBy, givenOf}
 use Rattle.shown.proofs.Play.{Quiet, Due}
 use Rattle.shown.proofs.Progress.{Kept, bump, bump-same, bump-other, all-ticked, all-delayed}
 use Rattle.shown.proofs.Stands.{busy-at-own}
 use Rattle.shown.proofs.Roles.{Roles, pivot-in-frame, sender-not-fast}
+use Rattle.shown.proofs.Wall.{later}
 use Rattle.shown.proofs.Rounds.{earlier, pivotCount, Turned, due-lacks, about-ticked}
 use Rattle.shown.proofs.Dawn.{within, Eve, Dawn, due-in, pivot-is, eve-begins, eve-on-time, eve-tick, eve-send, dawn-on-time}
 use Rattle.shown_rounds.specs.Rounds.{ticks, ticksAndSends, inOrder, neither, pivotRound}
@@ -58,9 +60,11 @@ record Spoken (P : Plan) (c : Parts) (r : Run) : Type 0 where
 abbrev dueFrom : Parts → ℕ → ℕ → Bool
 dueFrom c i k = not (neither c k) || leb i k
 
--- everybody has just ticked
-abbrev pub Ticked : Plan → Run → Type 0
-Ticked P r = (k : ℕ) → k < P .nodes .0 → node r k .time .0 ≡ 0
+-- the pivot's end: everybody has just ticked, and nobody is about to send
+pub record Ticked (P : Plan) (r : Run) : Type 0 where
+  pub kept : Kept P r
+  pub quiet : Quiet P (later r)
+  pub times : (k : ℕ) → k < P .nodes .0 → node r k .time .0 ≡ 0
 
 module _ {P : Plan} {c : Parts} (o : Sound P) (R : Roles P c) (plain : planNumber P ≡ 0) (by-parts : (q : Place) → inRange P (q .run) ≡ true → givenOf P q ≡ givenBy P c q) where
   abbrev f : ℕ
@@ -181,11 +185,23 @@ module _ {P : Plan} {c : Parts} (o : Sound P) (R : Roles P c) (plain : planNumbe
         go (yes e) = rw e (ap isAbout (D .fast .waits))
         go (no d) = D .others k l d .quiet
 
+    -- the fast node is not in its own slot
+    fast-silent : turns P r f ≡ false
+    fast-silent = rw (D .fast .waits, D .fast .slot, mode-elsewhere P (own P f) (node r f .clock .0) (c .p .0) (λ e. R .fast-away (sym e)))
+
     fast-ticks : Leads P (within r) (ticks f) After (Ticked P)
     unfolding goesFirst goesSecond markAfter
     fast-ticks =
         takes-then P c (within r) (TickOf (record { 0 = f })) [] After (Ticked P) taken
-        (rw (eq-eqb f f refl) (record { to = ticked P f r; plays = refl; holds = λ k l. ticked-now k l (ℕ-discrete k f) }))
+        (rw (eq-eqb f f refl) (record {
+          to = ticked P f r;
+          plays = refl;
+          holds = record {
+            kept = taken .kept;
+            quiet = λ k l. not-so (isAbout (node (ticked P f r) k .mode)) (λ e. clash (turns P r f) (about-ticked P r f k (omega (arith, R .fast-below, kept .room)) (quiet-dawn k l) e .1) fast-silent);
+            times = λ k l. ticked-now k l (ℕ-discrete k f);
+          };
+        }))
       where
         taken : Taken P c (within r) (TickOf (record { 0 = f }))
         taken =

@@ -40,9 +40,9 @@ module _ (P : Plan) where
   plays-then [] b q y z h k = rw h k
   plays-then (s ∷ a) b q y z h k = (h .0, h .1, h .2, plays-then a b (givenOf P q .place) y z (h .3) k)
 
-  pub plays-shown : (steps : List Step) (q z : Place) → Plays P q steps z → (more : ℕ) → shownSteps P (length steps + more) q ≡ steps ++ shownSteps P more z
-  plays-shown [] q z h more = rw (h, zero-add)
-  plays-shown (s ∷ steps) q z h more = rw (suc-add, h .1) (ap (λ (l : List Step). s ∷ l) (plays-shown steps (givenOf P q .place) z (h .3) more))
+  pub plays-shown : (steps : List Step) (q z : Place) → Plays P q steps z → shownSteps P (length steps) q ≡ steps
+  plays-shown [] q z h = refl
+  plays-shown (s ∷ steps) q z h = rw (h .1) (ap (λ (l : List Step). s ∷ l) (plays-shown steps (givenOf P q .place) z (h .3)))
 
   pub plays-place : (steps : List Step) (q z : Place) → Plays P q steps z → placeAt P (length steps) q ≡ z
   plays-place [] q z h = h

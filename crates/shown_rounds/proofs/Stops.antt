@@ -116,12 +116,12 @@ module _ (P : Plan) (c : Parts) (o : Sound P) (plain : planNumber P ≡ 0) (by-p
   nothing-more q r e (suc n) = let g : givenOf P q ≡ stays Finished q = by-parts q r ∙ given-stops P c q e in rw g
 
   -- the first n steps of the shown run, up to its first out-of-step state
-  pub told : (q : Place) (steps : List Step) (m : Mark) (J : Run → Type 0) → Goes P q steps m J → (n : ℕ) → n ≤ length steps → shownSteps P n q ≡ take n (untilOut P (q .run) steps)
+  pub shows : (q : Place) (steps : List Step) (m : Mark) (J : Run → Type 0) → Goes P q steps m J → (n : ℕ) → n ≤ length steps → shownSteps P n q ≡ take n (untilOut P (q .run) steps)
   unfolding untilOut
-  told q steps m J (arrives h) n l =
+  shows q steps m J (arrives h) n l =
       let all : untilOut P (q .run) steps ≡ steps = ap (untilOut P (q .run)) (sym (append-nil steps)) ∙ plays-until P steps [] q (record { run = h .to; mark = m }) (h .plays) ∙ append-nil steps in
       rw all (plays-few P steps q (record { run = h .to; mark = m }) (h .plays) n l)
-  told q steps m J (halts s) n l =
+  shows q steps m J (halts s) n l =
       let all : untilOut P (q .run) steps ≡ s .given =
       ap (untilOut P (q .run)) (s .all) ∙ plays-until P (s .given) (s .left) q (s .at) (s .plays) ∙ ap (λ (l : List Step). s .given ++ l) (out-ends P (s .at .run) (s .out) (s .left)) ∙ append-nil (s .given) in
       rw all (plays-all P (s .given) q (s .at) (s .plays) (nothing-more (s .at) (s .range) (s .out)) n)

@@ -1,12 +1,13 @@
--- The shown run begins with the rounds before the pivot and the pivot: round after round from a fresh run.
-use Prim.Native.Nat.{ℕ, zero, suc, _+_, _-_, _<_}
+-- The shown run is the rounds before the pivot, the pivot and the moments after it: round after round from a fresh run.
+use Prim.Native.Nat.{ℕ, zero, suc, _+_, _-_, _≤_, _<_}
 use mathlib.Core.Path.{_≡_, refl, sym, ap, _∙_}
 use mathlib.Core.Logic.{_≢_}
 use mathlib.Core.Bool.{Bool, true, false, cond, _&&_}
 use mathlib.Core.List.{List, _++_}
+use native.Mathlib.Nat.{zero-mod}
 use native.Mathlib.Omega.{arith}
 use lib.Dec.{eqb}
-use lib.ListN.{length}
+use lib.ListN.{length, length-append}
 use Rattle.plan.specs.declared.Plan.{Plan}
 use Rattle.plan.specs.Sending.{own}
 use Rattle.plan.specs.Tested.{planNumber, Sound}
@@ -25,17 +26,20 @@ use Rattle.shown.specs.declared.Mark.the-variants.{Before, After}
 use Rattle.shown.specs.declared.Place.{Place}
 use Rattle.shown.specs.declared.Parts.{Parts}
 use Rattle.shown.specs.Parts.{partsFor}
-use Rattle.shown.specs.Shown.{freshPlace, turns, pivotNext, givenBy, givenOf, placeAt, shownSteps}
+use Rattle.shown.specs.Shown.{freshPlace, dueTime, turns, pivotNext, givenBy, givenOf, placeAt, shownSteps}
 use Rattle.shown.proofs.Roles.{Roles, Failure}
 use Rattle.shown.proofs.Rounds.{earlier, pivotCount}
 use Rattle.shown.proofs.Dawn.{pivot-is, pivot-not}
 use Rattle.shown.proofs.Casting.{cast}
 use Rattle.shown.proofs.Why.{given-is, fresh-early}
 use Rattle.shown_rounds.specs.Rounds.{roundBefore, pivotRound, roundsBefore, afterRounds, throughPivot}
-use Rattle.shown_rounds.specs.ByRounds.{pivotEnd, ByRounds, ShownByRounds}
+use Rattle.shown_rounds.specs.Moments.{moments}
+use Rattle.shown_rounds.specs.ByRounds.{told, pivotEnd, ByRounds, ShownByRounds}
 use Rattle.shown_rounds.proofs.Plays.{Leads, leads-run, leads-after, leads-then, plays-shown, plays-place}
+use Rattle.shown_rounds.proofs.Stops.{Goes, arrives, goes-on, shows}
 use Rattle.shown_rounds.proofs.Before.{Rest, rest-number, waits-min, round-before}
 use Rattle.shown_rounds.proofs.Pivot.{Ticked, pivot-round}
+use Rattle.shown_rounds.proofs.AtMoment.{Calm, Anywhere, moments-act, moments-long}
 
 -- the tick of the sender of p makes it about to send where it waits in p with clock g − 1
 turns-is : (P : Plan) (c : Parts) → Roles P c → (r : Run) → isAbout (node r (c .sender .0) .mode) ≡ false → turns P r (c .sender .0) ≡ pivotNext P c r
@@ -102,6 +106,10 @@ module _ {P : Plan} {c : Parts} (o : Sound P) (R : Roles P c) (F : Failure P c) 
   through : (k : ℕ) → k + 1 ≡ pivotCount P c → Leads P (earlier freshRun) (throughPivot P c k) After (Ticked P)
   through k e = leads-then P (before k (omega arith)) (λ r s. pivot-round o R plain by-parts k r s e)
 
+  -- the pivot's end is 0 after it
+  calm : (r : Run) → Ticked P r → Calm P c 0 r
+  calm r t = record { kept = t .kept; quiet = t .quiet; times = λ k l. rw (zero-mod (dueTime P c After k)) (t .times k l) }
+
   pub by-rounds : ByRounds P c
   unfolding freshPlace
   by-rounds =
@@ -110,10 +118,11 @@ module _ {P : Plan} {c : Parts} (o : Sound P) (R : Roles P c) (F : Failure P c) 
         now = pivot-now k full;
         not-before = λ j l. pivot-later j (omega (arith, full));
         count = full;
-        begins = λ more. rw at-end (plays-shown P (throughPivot P c k) freshPlace end (z .plays) more);
+        through = plays-shown P (throughPivot P c k) freshPlace end (z .plays);
         run = rw (at-end, leads-run P z);
         mark = rw at-end;
-        times = rw at-end (z .holds);
+        times = rw at-end (z .holds .times);
+        whole = λ n. shows P c o plain by-parts freshPlace (told P c k n) After Anywhere (goes n) n (long n);
       }
     where
       k : ℕ
@@ -130,6 +139,15 @@ module _ {P : Plan} {c : Parts} (o : Sound P) (R : Roles P c) (F : Failure P c) 
 
       at-end : pivotEnd P c k ≡ end
       at-end = plays-place P (throughPivot P c k) freshPlace end (z .plays)
+
+      after : Run
+      after = runAfter P freshRun (throughPivot P c k)
+
+      goes : (n : ℕ) → Goes P freshPlace (told P c k n) After Anywhere
+      goes n = goes-on P freshPlace (throughPivot P c k) (moments P c n 0 after) After After (Ticked P) Anywhere (arrives z) (λ r e t. rw e (moments-act o R plain by-parts n 0 r (calm r t)))
+
+      long : (n : ℕ) → n ≤ length (told P c k n)
+      long n = omega (arith, length-append (throughPivot P c k) (moments P c n 0 after), moments-long P c n 0 after)
 
 pub shown-by-rounds : (P : Plan) → ShownByRounds P
 shown-by-rounds P plain rule v = let z = cast P (sound P plain) rule v in by-rounds (sound P plain) (z .roles) (z .failure) plain (given-is P rule plain v)
