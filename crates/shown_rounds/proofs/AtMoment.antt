@@ -3,21 +3,20 @@ use Prim.Native.Nat.{ℕ, zero, suc, _+_, _-_, _%_, _≤_, _<_, min}
 use mathlib.Core.Path.{_≡_, refl, sym, ap, _∙_}
 use mathlib.Core.Logic.{_≢_}
 use mathlib.Core.Bool.{Bool, true, false, cond, not, _&&_}
-use mathlib.Core.List.{List, [], _∷_, _++_}
+use mathlib.Core.List.{[], _∷_, _++_}
 use native.Mathlib.Nat.{mod-lt, mod-eq-of-lt, mod-self, mod-add-mod}
 use native.Mathlib.Decide.{ℕ-discrete}
 use native.Mathlib.Omega.{arith}
 use borrow.Author.Tests.{eqb-true, eqb-false, eq-eqb, ne-eqb, le-leb, lt-leb}
 use lib.Dec.{eqb, leb}
 use lib.ListN.{length, length-append}
-use Rattle.laws.proofs.Bools.{clash, not-so, and-true-left, and-true-right, true-not-false, false-not-true}
+use Rattle.laws.proofs.Bools.{clash, not-so, and-true-left, and-true-right, true-not-false}
 use Rattle.laws.proofs.Belows.{Reached, least-under, least-reached}
 use Rattle.plan.specs.declared.Plan.{Plan}
 use Rattle.plan.specs.Sending.{own}
 use Rattle.plan.specs.Tested.{planNumber, Sound}
 use Rattle.run.specs.declared.NodeState.{NodeState}
 use Rattle.run.specs.declared.Run.{Run}
-use Rattle.run.specs.declared.Step.{Step}
 use Rattle.run.specs.declared.Step.the-variants.{Delay, TickOf, SendOf}
 use Rattle.run.specs.State.{node, isAbout, inRange}
 use Rattle.run.specs.Moves.{modeAfter, nodeDelayed, nodeHearing, delayed, ticked, sent}
@@ -27,7 +26,7 @@ use Rattle.shown.specs.declared.Mark.the-variants.{After}
 use Rattle.shown.specs.declared.Place.{Place}
 use Rattle.shown.specs.declared.Parts.{Parts}
 use Rattle.shown.specs.Shown.{dueTime, turns, goesFirst, goesSecond, timeToDue, nextStep, markAfter, givenBy, givenOf}
-use Rattle.shown.proofs.Play.{Quiet, OnTime, Due, due-high, due-low}
+use Rattle.shown.proofs.Play.{Quiet, OnTime, Due, due-low}
 use Rattle.shown.proofs.Progress.{Kept, all-ticked, all-delayed, all-sent}
 use Rattle.shown.proofs.Roles.{Roles}
 use Rattle.shown.proofs.Rounds.{about-ticked}
@@ -36,9 +35,8 @@ use Rattle.shown_rounds.specs.Rounds.{ticks, ticksAndSends, inOrder}
 use Rattle.shown_rounds.specs.Moments.{toNearest, acts, atMoment, nextMoment, moments}
 use Rattle.shown_rounds.proofs.Next.{next-wait, next-send, next-first, next-second}
 use Rattle.shown_rounds.proofs.Plays.{Taken}
-use Rattle.shown_rounds.proofs.InOrder.{in-order}
+use Rattle.shown_rounds.proofs.InOrder.{from-self, from-next, from-other, in-order}
 use Rattle.shown_rounds.proofs.Stops.{Goes, goes-nowhere, goes-to, goes-on, goes-by}
-use Rattle.shown_rounds.proofs.Before.{from-self, from-next, from-other}
 
 -- node k is due at y, a moment of its own; b says whether its tick will make it about to send
 record Owes (P : Plan) (c : Parts) (y : ℕ) (b : Bool) (k : ℕ) (a : NodeState) : Type 0 where

@@ -1,14 +1,13 @@
 -- A round before the pivot: first those tick whom the tick doesn't make about to send, then each of the others ticks and sends.
-use Prim.Native.Nat.{ℕ, suc, _+_, _≤_, _<_}
+use Prim.Native.Nat.{ℕ, suc, _+_, _<_}
 use mathlib.Core.Path.{_≡_, refl, sym, ap, _∙_}
 use mathlib.Core.Logic.{_≢_}
 use mathlib.Core.Bool.{Bool, true, false, not, _&&_, _||_}
 use mathlib.Core.List.{[], _∷_}
-use native.Mathlib.Decide.{ℕ-discrete, decLe}
+use native.Mathlib.Decide.{ℕ-discrete}
 use native.Mathlib.Omega.{arith}
 use borrow.Author.Tests.{le-leb, lt-leb}
 use lib.Dec.{leb}
-use lib.ListN.{length}
 use Rattle.laws.proofs.Bools.{clash, not-so, true-not-false, false-not-true, and-true-left, and-true-right}
 use Rattle.plan.specs.declared.Plan.{Plan}
 use Rattle.plan.specs.declared.Time.{Time}
@@ -24,16 +23,16 @@ use Rattle.run.proofs.Nodes.{node-ticked}
 use Rattle.shown.specs.declared.Mark.the-variants.{Before}
 use Rattle.shown.specs.declared.Place.{Place}
 use Rattle.shown.specs.declared.Parts.{Parts}
-use Rattle.shown.specs.Shown.{turns, goesFirst, goesSecond, pivotNext, nextStep, markAfter, timeToDue, givenBy, givenOf}
+use Rattle.shown.specs.Shown.{turns, goesFirst, goesSecond, nextStep, markAfter, timeToDue, givenBy, givenOf}
 use Rattle.shown.proofs.Play.{Quiet}
-use Rattle.shown.proofs.Progress.{Kept, bump, bump-same, all-ticked, all-delayed, all-sent}
+use Rattle.shown.proofs.Progress.{Kept, bump, all-ticked, all-delayed, all-sent}
 use Rattle.shown.proofs.Roles.{Roles}
 use Rattle.shown.proofs.Rounds.{earlier, pivotCount, Early, due-before, early-done, about-ticked, early-on-time, early-send, early-tick, delay-is-min}
 use Rattle.shown.proofs.Dawn.{pivot-not, early-delay}
 use Rattle.shown_rounds.specs.Rounds.{ticks, ticksAndSends, inOrder, roundBefore}
 use Rattle.shown_rounds.proofs.Next.{next-wait, next-send, next-first, next-second}
 use Rattle.shown_rounds.proofs.Plays.{Leads, leads-then, leads-nowhere, Taken, takes-then, takes}
-use Rattle.shown_rounds.proofs.InOrder.{in-order}
+use Rattle.shown_rounds.proofs.InOrder.{from-self, from-next, from-other, in-order}
 use Rattle.shown_rounds.proofs.Together.{round-in-step}
 
 -- a node that has had the tick of round T
@@ -66,20 +65,6 @@ pub record Stage (P : Plan) (c : Parts) (T : ℕ) (r : Run) (due : ℕ → Bool)
   pub early : Early P c now counts
   pub quiet : Quiet P (earlier now)
   pub nodes : (k : ℕ) → k < P .nodes .0 → OfRound P T (turns P r k) (due k) k (node now k) (counts k)
-
--- from i on, one fewer at the next
-pub from-self : (i : ℕ) → leb i i ≡ true
-from-self i = le-leb i i (omega arith)
-
-pub from-next : (i : ℕ) → leb (suc i) i ≡ false
-from-next i = lt-leb (suc i) i (omega arith)
-
-pub from-other : (i k : ℕ) → k ≢ i → leb (suc i) k ≡ leb i k
-from-other i k d = go (decLe i k)
-  where
-    go : Dec (i ≤ k) → leb (suc i) k ≡ leb i k
-    go (yes l) = le-leb (suc i) k (omega arith) ∙ sym (le-leb i k l)
-    go (no l) = lt-leb (suc i) k (omega arith) ∙ sym (lt-leb i k (omega arith))
 
 -- who is still due in the first pass and in the second, when node i's turn comes
 abbrev dueFirst : Plan → Run → ℕ → ℕ → Bool

@@ -1,15 +1,33 @@
 -- What nodes do in number order: each that passes does its steps on the run that the one before it leaves.
-use Prim.Native.Nat.{ℕ, zero, suc, _+_, _<_}
-use mathlib.Core.Path.{_≡_, refl}
+use Prim.Native.Nat.{ℕ, zero, suc, _+_, _≤_, _<_}
+use mathlib.Core.Path.{_≡_, refl, sym, _∙_}
+use mathlib.Core.Logic.{_≢_}
 use mathlib.Core.Bool.{Bool, true, false, cond}
 use mathlib.Core.List.{List, [], _++_}
+use native.Mathlib.Decide.{decLe}
 use native.Mathlib.Omega.{arith}
+use borrow.Author.Tests.{le-leb, lt-leb}
+use lib.Dec.{leb}
 use Rattle.plan.specs.declared.Plan.{Plan}
 use Rattle.run.specs.declared.Run.{Run}
 use Rattle.run.specs.declared.Step.{Step}
 use Rattle.shown.specs.declared.Mark.{Mark}
 use Rattle.shown.specs.declared.Place.{Place}
 use Rattle.shown_rounds.specs.Rounds.{inOrderFrom}
+
+-- from i on, one fewer at the next
+pub from-self : (i : ℕ) → leb i i ≡ true
+from-self i = le-leb i i (omega arith)
+
+pub from-next : (i : ℕ) → leb (suc i) i ≡ false
+from-next i = lt-leb (suc i) i (omega arith)
+
+pub from-other : (i k : ℕ) → k ≢ i → leb (suc i) k ≡ leb i k
+from-other i k d = go (decLe i k)
+  where
+    go : Dec (i ≤ k) → leb (suc i) k ≡ leb i k
+    go (yes l) = le-leb (suc i) k (omega arith) ∙ sym (le-leb i k l)
+    go (no l) = lt-leb (suc i) k (omega arith) ∙ sym (lt-leb i k (omega arith))
 
 -- G says what steps lead to: no steps stay, and more steps go on from there
 module _ (P : Plan) (G : Place → List Step → Mark → (Run → Type 0) → Type 0)

@@ -1,11 +1,10 @@
 -- Which node the next step of the shown run is of: the lowest of those whose turn it is.
 use Prim.Native.Nat.{ℕ, _<_}
-use mathlib.Core.Path.{_≡_, refl}
+use mathlib.Core.Path.{_≡_}
 use mathlib.Core.Bool.{Bool, true, false, _&&_}
 use native.Mathlib.Omega.{arith}
 use borrow.Author.Tests.{eqb-true, eq-eqb, lt-ltb, le-ltb}
-use lib.Dec.{eqb, ltb}
-use Rattle.laws.specs.Below.{firstBelow}
+use lib.Dec.{ltb}
 use Rattle.laws.proofs.Bools.{not-so, and-both, and-true-left, and-true-right, clash}
 use Rattle.laws.proofs.Belows.{first-at, first-none}
 use Rattle.plan.specs.declared.Plan.{Plan}

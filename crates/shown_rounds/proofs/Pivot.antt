@@ -1,22 +1,20 @@
 -- The pivot: all but the fast node and the sender of p tick in number order, the sender of p ticks and sends, the fast node ticks.
-use Prim.Native.Nat.{ℕ, suc, _+_, _*_, _≤_, _<_}
+use Prim.Native.Nat.{ℕ, suc, _+_, _*_, _<_}
 use mathlib.Core.Path.{_≡_, refl, sym, ap, _∙_}
 use mathlib.Core.Logic.{_≢_}
-use mathlib.Core.Bool.{Bool, true, false, cond, not, _&&_, _||_}
+use mathlib.Core.Bool.{Bool, true, false, cond, not, _||_}
 use mathlib.Core.List.{[], _∷_}
 use native.Mathlib.Decide.{ℕ-discrete}
 use native.Mathlib.Omega.{arith}
 use borrow.Author.Tests.{eqb-false, eq-eqb, ne-eqb, le-leb, lt-leb}
 use lib.Dec.{eqb, leb}
-use lib.ListN.{length}
 use Rattle.laws.specs.Ring.{distance}
-use Rattle.laws.proofs.Bools.{clash, not-so, and-both, and-true-left, and-true-right, true-not-false, false-not-true}
+use Rattle.laws.proofs.Bools.{clash, not-so, and-true-left, and-true-right, true-not-false}
 use Rattle.laws.proofs.Ring.{from-0}
 use Rattle.plan.specs.declared.Plan.{Plan}
 use Rattle.plan.specs.Sending.{own}
 use Rattle.plan.specs.Tested.{planNumber, Sound}
 use Rattle.plan.proofs.Sound.{own-in-frame}
-use Rattle.run.specs.declared.NodeState.{NodeState}
 use Rattle.run.specs.declared.Run.{Run}
 use Rattle.run.specs.declared.Step.{Step}
 use Rattle.run.specs.declared.Step.the-variants.{Delay, TickOf, SendOf}
@@ -33,14 +31,14 @@ use Rattle.shown.proofs.Progress.{Kept, bump, bump-same, bump-other, all-ticked
 use Rattle.shown.proofs.Stands.{busy-at-own}
 use Rattle.shown.proofs.Roles.{Roles, pivot-in-frame, sender-not-fast}
 use Rattle.shown.proofs.Wall.{later}
-use Rattle.shown.proofs.Rounds.{earlier, pivotCount, Turned, due-lacks, about-ticked}
+use Rattle.shown.proofs.Rounds.{earlier, pivotCount, due-lacks, about-ticked}
 use Rattle.shown.proofs.Dawn.{within, Eve, Dawn, due-in, pivot-is, eve-begins, eve-on-time, eve-tick, eve-send, dawn-on-time}
 use Rattle.shown_rounds.specs.Rounds.{ticks, ticksAndSends, inOrder, neither, pivotRound}
 use Rattle.shown_rounds.proofs.Next.{next-send, next-first, next-second, next-third}
 use Rattle.shown_rounds.proofs.Plays.{Leads, leads-then, leads-nowhere, Taken, takes-then, takes}
-use Rattle.shown_rounds.proofs.InOrder.{in-order}
+use Rattle.shown_rounds.proofs.InOrder.{from-self, from-next, from-other, in-order}
 use Rattle.shown_rounds.proofs.Together.{round-in-step, dawn-in-step}
-use Rattle.shown_rounds.proofs.Before.{Rest, from-self, from-next, from-other, rest-number, waits-min}
+use Rattle.shown_rounds.proofs.Before.{Rest, rest-number, waits-min}
 
 -- in the pivot, before the message: these are still due
 record Waits (P : Plan) (c : Parts) (due : ℕ → Bool) (r : Run) : Type 0 where

@@ -1,10 +1,7 @@
--- Steps in a row that the shown run gives from a place, where they lead, and what nodes do in number order.
-use Prim.Native.Nat.{ℕ, zero, suc, _+_, _≤_, _<_}
-use mathlib.Core.Path.{_≡_, refl, sym, ap, _∙_}
-use mathlib.Core.Bool.{Bool, true, false, cond}
+-- Steps in a row that the shown run gives from a place, and where they lead.
+use mathlib.Core.Path.{_≡_, refl, ap, _∙_}
+use mathlib.Core.Bool.{true, false}
 use mathlib.Core.List.{List, [], _∷_, _++_}
-use native.Mathlib.Nat.{zero-add, suc-add}
-use native.Mathlib.Omega.{arith}
 use lib.ListN.{length}
 use Rattle.plan.specs.declared.Plan.{Plan}
 use Rattle.plan.specs.Tested.{planNumber, Sound}
@@ -18,13 +15,11 @@ use Rattle.run.proofs.Legal.{step-legal, step-done}
 use Rattle.shown.specs.declared.Mark.{Mark}
 use Rattle.shown.specs.declared.Place.{Place}
 use Rattle.shown.specs.declared.Parts.{Parts}
-use Rattle.shown.specs.declared.Given.{Given}
 use Rattle.shown.specs.declared.Next.the-variants.{Takes}
 use Rattle.shown.specs.Shown.{nextStep, placeAfter, givenBy, givenOf, placeAt, shownSteps}
 use Rattle.shown.proofs.Play.{OnTime, Move, on-time, next-move, move-legal}
 use Rattle.shown.proofs.Giving.{given-takes}
 use Rattle.shown.proofs.Progress.{Kept, kept-after}
-use Rattle.shown_rounds.specs.Rounds.{inOrderFrom}
 
 -- the steps are given one after the other from q, and lead to z
 abbrev pub Plays : Plan → Place → List Step → Place → Type 0

@@ -1,17 +1,16 @@
 -- Steps that the shown run gives unless it stops within them, out of step.
-use Prim.Native.Nat.{ℕ, zero, suc, _+_, _≤_}
+use Prim.Native.Nat.{ℕ, zero, suc, _≤_}
 use mathlib.Core.Path.{_≡_, refl, sym, ap, _∙_}
 use mathlib.Core.Bool.{Bool, true, false}
 use mathlib.Core.List.{List, [], _∷_, _++_, append-assoc, append-nil}
 use native.Mathlib.Nat.{not-suc-le-zero, le-of-suc-le-suc}
-use native.Mathlib.Omega.{arith}
 use lib.ListN.{length, take}
 use Rattle.plan.specs.declared.Plan.{Plan}
 use Rattle.plan.specs.Tested.{planNumber, Sound}
 use Rattle.run.specs.declared.Run.{Run}
 use Rattle.run.specs.declared.Step.{Step}
 use Rattle.run.specs.State.{inRange, outOfStep}
-use Rattle.run.specs.Steps.{stepOf, runAfter}
+use Rattle.run.specs.Steps.{runAfter}
 use Rattle.shown.specs.declared.Mark.{Mark}
 use Rattle.shown.specs.declared.Place.{Place}
 use Rattle.shown.specs.declared.Parts.{Parts}

@@ -9,7 +9,7 @@ use lib.Dec.{eqb}
 use Rattle.laws.specs.Below.{anyBelow}
 use Rattle.laws.specs.Ring.{distance}
 use Rattle.laws.proofs.Bools.{clash, and-true-left, and-true-right, true-not-false, not-so}
-use Rattle.laws.proofs.Belows.{Some, any-never, any-some}
+use Rattle.laws.proofs.Belows.{any-never, any-some}
 use Rattle.laws.proofs.Ring.{distance-self}
 use Rattle.plan.specs.declared.Plan.{Plan}
 use Rattle.plan.specs.Sending.{own}

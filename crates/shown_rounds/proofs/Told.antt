@@ -1,9 +1,9 @@
 -- The shown run is the rounds before the pivot, the pivot and the moments after it: round after round from a fresh run.
 use Prim.Native.Nat.{ℕ, zero, suc, _+_, _-_, _≤_, _<_}
-use mathlib.Core.Path.{_≡_, refl, sym, ap, _∙_}
+use mathlib.Core.Path.{_≡_, refl, _∙_}
 use mathlib.Core.Logic.{_≢_}
 use mathlib.Core.Bool.{Bool, true, false, cond, _&&_}
-use mathlib.Core.List.{List, _++_}
+use mathlib.Core.List.{_++_}
 use native.Mathlib.Nat.{zero-mod}
 use native.Mathlib.Omega.{arith}
 use lib.Dec.{eqb}
@@ -12,11 +12,9 @@ use Rattle.plan.specs.declared.Plan.{Plan}
 use Rattle.plan.specs.Sending.{own}
 use Rattle.plan.specs.Tested.{planNumber, Sound}
 use Rattle.plan.proofs.Sound.{sound}
-use Rattle.rules.specs.declared.Rule.{Rule}
 use Rattle.run.specs.declared.Mode.{Mode}
 use Rattle.run.specs.declared.Mode.the-variants.{Waiting, AboutToSend, Sending}
 use Rattle.run.specs.declared.Run.{Run}
-use Rattle.run.specs.declared.Step.{Step}
 use Rattle.run.specs.State.{freshRun, node, isAbout, isWaiting, inRange}
 use Rattle.run.specs.Moves.{guardEnds, modeAfter}
 use Rattle.run.specs.Steps.{runAfter}
@@ -25,14 +23,13 @@ use Rattle.run.proofs.Ranges.{fresh-range}
 use Rattle.shown.specs.declared.Mark.the-variants.{Before, After}
 use Rattle.shown.specs.declared.Place.{Place}
 use Rattle.shown.specs.declared.Parts.{Parts}
-use Rattle.shown.specs.Parts.{partsFor}
-use Rattle.shown.specs.Shown.{freshPlace, dueTime, turns, pivotNext, givenBy, givenOf, placeAt, shownSteps}
+use Rattle.shown.specs.Shown.{freshPlace, dueTime, turns, pivotNext, givenBy, givenOf}
 use Rattle.shown.proofs.Roles.{Roles, Failure}
 use Rattle.shown.proofs.Rounds.{earlier, pivotCount}
 use Rattle.shown.proofs.Dawn.{pivot-is, pivot-not}
 use Rattle.shown.proofs.Casting.{cast}
 use Rattle.shown.proofs.Why.{given-is, fresh-early}
-use Rattle.shown_rounds.specs.Rounds.{roundBefore, pivotRound, roundsBefore, afterRounds, throughPivot}
+use Rattle.shown_rounds.specs.Rounds.{roundBefore, roundsBefore, afterRounds, throughPivot}
 use Rattle.shown_rounds.specs.Moments.{moments}
 use Rattle.shown_rounds.specs.ByRounds.{told, pivotEnd, ByRounds, ShownByRounds}
 use Rattle.shown_rounds.proofs.Plays.{Leads, leads-run, leads-after, leads-then, plays-shown, plays-place}

@@ -28,10 +28,10 @@ told P c k n = throughPivot P c k ++ moments P c n 0 (runAfter P freshRun (throu
 abbrev pub pivotEnd : Plan → Parts → ℕ → Place
 pivotEnd P c k = placeAt P (length (throughPivot P c k)) freshPlace
 
--- So many rounds come before the pivot, in which the sender of p is about to send for the first time; p·k0 + g with the pivot.
--- The shown run gives these rounds and the pivot whole. At the pivot's end the mark is "after" and every node has just ticked,
--- so that a time since tick counts from the pivot. The first n steps of the shown run are the first n of the rounds, the
--- pivot and the moments after it, up to the first out-of-step state.
+-- So many rounds come before the pivot, the round in which the sender of p is about to send for the first time; with it p·k0 + g.
+-- The shown run gives them and the pivot whole. At the pivot's end the mark is "after" and every node has just ticked, so that
+-- a time since tick counts from the pivot. The first n steps of the shown run, for every n, are the first n of the rounds, the
+-- pivot and the moments after it (n moments have n steps or more), up to the first out-of-step state.
 pub record ByRounds (P : Plan) (c : Parts) : Type 0 where
   pub rounds : ℕ
   pub now : turns P (afterRounds P rounds) (c .sender .0) ≡ true
