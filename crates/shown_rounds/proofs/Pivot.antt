@@ -71,9 +71,6 @@ module _ {P : Plan} {c : Parts} (o : Sound P) (R : Roles P c) (plain : planNumbe
   abbrev a : ℕ
   a = c .sender .0
 
-  not-neither-fast : neither c f ≡ false
-  not-neither-fast = rw (eq-eqb f f refl)
-
   not-neither-sender : neither c a ≡ false
   not-neither-sender = rw (eq-eqb a a refl, ne-eqb a f (sender-not-fast R))
 

@@ -107,7 +107,7 @@ module _ {P : Plan} {c : Parts} (o : Sound P) (R : Roles P c) (F : Failure P c) 
   calm : (r : Run) → Ticked P r → Calm P c 0 r
   calm r t = record { kept = t .kept; quiet = t .quiet; times = λ k l. rw (zero-mod (dueTime P c After k)) (t .times k l) }
 
-  pub by-rounds : ByRounds P c
+  by-rounds : ByRounds P c
   unfolding freshPlace
   by-rounds =
       record {
