@@ -158,7 +158,7 @@ module _ (P : Plan) (o : Sound P) (c : Parts) (R : Roles P c) (F : Failure P c) 
         go After S q = omega (arith, S .counts i l, later-short o R room F (S .state) i l)
 
   -- a fresh run is in round 0, of which everybody had the tick
-  fresh-early : Early P c freshRun (λ k. 0)
+  pub fresh-early : Early P c freshRun (λ k. 0)
   fresh-early =
       record {
         number = 0;

@@ -1,0 +1,10 @@
+pub mod Next
+pub mod Plays
+pub mod InOrder
+pub mod Stops
+pub mod Together
+pub mod Before
+pub mod Pivot
+pub mod AtMoment
+pub mod Told
+pub mod Sample
