@@ -1,3 +1,4 @@
+-- The run is fresh by the promise on it, and the mark is Before.
 use Rattle.shown.specs.Shown.{freshPlace}
 use Rattle.shown.specs.declared.Mark.the-variants.{Before}
 use borrow.Author.Needs.{needs}

@@ -1,3 +1,4 @@
+-- Past due, out of step, or neither: in step and on time the next step is legal (`next-legal`) and needs no test.
 use mathlib.Core.Path.{_≡_, sym, _∙_}
 use mathlib.Core.Bool.{false}
 use native.Mathlib.Omega.{arith}

@@ -1,3 +1,4 @@
+-- A node was seen sending: the test tells. None was: by what is asked, the run is not out of step.
 use mathlib.Core.Path.{sym}
 use borrow.Author.Needs.{needs}
 use Rattle.shown.proofs.is_out.Statement.{statement}

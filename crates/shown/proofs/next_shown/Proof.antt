@@ -1,3 +1,4 @@
+-- 1 to 9, then 10, then the verdict. A failed rule's parts have a sender below N (`cast`), as `given_tested` asks.
 use mathlib.Core.Path.{_≡_, sym, ap, _∙_}
 use mathlib.Core.Bool.{true}
 use borrow.Author.Tests.{eq-eqb, ne-eqb}

@@ -1,3 +1,4 @@
+-- By mark and step: before the pivot a delay decides, in it a tick; any other step, and any after it, leaves the mark.
 use Rattle.shown.specs.declared.Mark.the-variants.{After}
 use Rattle.shown.specs.declared.Parts.{Parts}
 use Rattle.run.specs.declared.Step.the-variants.{Delay, TickOf, SendOf}

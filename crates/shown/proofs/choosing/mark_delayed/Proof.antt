@@ -1,3 +1,4 @@
+-- The state read is that of the sender of p in the run, so its test tells whether the pivot is next.
 use mathlib.Core.Path.{refl, sym, _∙_}
 use borrow.Author.Needs.{needs}
 use Rattle.shown.proofs.choosing.mark_delayed.Statement.{statement}

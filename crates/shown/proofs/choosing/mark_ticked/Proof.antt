@@ -1,3 +1,4 @@
+-- The fast node's tick, or another node's.
 use Rattle.laws.proofs.Tests.{tests}
 use Rattle.shown.proofs.choosing.mark_ticked.Statement.{statement}
 use Rattle.shown.proofs.choosing.mark_ticked.Tie as tie

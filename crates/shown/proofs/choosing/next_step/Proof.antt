@@ -1,3 +1,4 @@
+-- The four nodes seen, in turn: the first below N goes, N is nobody. `chosen-next` says that this is the next step.
 use mathlib.Core.Path.{_∙_}
 use borrow.Author.Tests.{lt-ltb, le-ltb}
 use Rattle.run.specs.declared.Step.the-variants.{Delay}

@@ -1,3 +1,4 @@
+-- By the sender's mode: while it waits its slot and clock decide; about to send or sending, the pivot is not next.
 use borrow.Author.Needs.{needs}
 use Rattle.shown.proofs.choosing.pivot_next.Statement.{statement}
 use Rattle.shown.proofs.choosing.pivot_next.Tie as tie

@@ -1,3 +1,4 @@
+-- After i turns `least` is the least of max and the times to due of the nodes below i.
 use Prim.Native.Nat.{ℕ, _≤_, _-_}
 use mathlib.Core.Path.{_≡_, sym, ap, _∙_}
 use native.Mathlib.Omega.{arith}

@@ -1,3 +1,4 @@
+-- By the mark: min before and in the pivot; after it min for the fast node and max for another.
 use borrow.Author.Tests.{eq-eqb, ne-eqb}
 use Rattle.shown.specs.Shown.{dueTime}
 use borrow.Author.Needs.{needs}

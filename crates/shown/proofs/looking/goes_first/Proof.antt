@@ -1,3 +1,4 @@
+-- By the mark: before the pivot `turns` decides; in it all but the fast node and p's sender; after it the fast node.
 use mathlib.Core.Path.{ap}
 use mathlib.Core.Bool.{not}
 use borrow.Author.Tests.{eq-eqb, ne-eqb}
@@ -24,9 +25,7 @@ enum-told-3 c = search needs
 
 returns-2 : tie.Need-returns-2
 unfolding goesFirst
-returns-2 c run e =
-    let a = c .before .before .before .args in
-    rw (c .before .enum-told .given .1, e, ← c .before .before .before .pre) (ap not (c .turns .ensures))
+returns-2 c run e = rw (c .before .enum-told .given .1, e, ← c .before .before .before .pre) (ap not (c .turns .ensures))
 
 returns-3 : tie.Need-returns-3
 unfolding goesFirst

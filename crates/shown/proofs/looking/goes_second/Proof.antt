@@ -1,3 +1,4 @@
+-- By the mark: in the pivot every node but the fast one, before and after it every node.
 use Rattle.shown.specs.Shown.{goesSecond}
 use borrow.Author.Needs.{needs}
 use Rattle.shown.proofs.looking.goes_second.Statement.{statement}

@@ -1,3 +1,4 @@
+-- Another slot than w decides at once; in w the clock plus 1 is compared with g, in 32 bits, where it does not wrap.
 use borrow.Author.Tests.{eq-eqb, ne-eqb}
 use borrow.Author.Needs.{needs}
 use Rattle.shown.proofs.looking.guard_ends.Statement.{statement}

@@ -1,6 +1,7 @@
-use Rattle.shown.proofs.Looks.{from-earlier}
+-- From the highest node down, of the nodes from i on: none is past due, `seen` is what they show, and none sends while
+-- `sending` is false. The measure is i; a node past due ends the look.
 use Rattle.shown.specs.declared.Place.{Place}
-use Rattle.shown.proofs.Looks.{seen-nothing, late-looked, on-time-looked, silent-in-step}
+use Rattle.shown.proofs.Looks.{from-earlier, seen-nothing, late-looked, on-time-looked, silent-in-step}
 use Rattle.laws.proofs.Bools.{clash, or-false-left, or-false-right}
 use Rattle.shown.specs.declared.Looked.the-variants.{OnTime}
 use Prim.Native.Nat.{ℕ, _+_, _≤_, _<_, _-_}

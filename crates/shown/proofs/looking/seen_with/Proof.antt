@@ -1,3 +1,4 @@
+-- Each of the four by `lowest-with`: node i where it passes that test, else the lowest of the nodes after it.
 use lib.Dec.{eqb}
 use mathlib.Core.Path.{_≡_, ap, _∙_}
 use mathlib.Core.Bool.{_&&_}

@@ -1,3 +1,4 @@
+-- By the mode: a waiting node where its guard ends, a node about to send always, a sending node never.
 use Prim.Native.Nat.{_+_}
 use mathlib.Core.Path.{_≡_, refl, _∙_}
 use mathlib.Core.Bool.{Bool, true, false, cond}

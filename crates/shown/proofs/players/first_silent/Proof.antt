@@ -1,3 +1,4 @@
+-- After i turns every node below i sends in p or in s; the first that sends in neither is the lowest.
 use Prim.Native.Nat.{ℕ, _≤_, _<_, _-_}
 use mathlib.Core.Path.{_≡_, sym, _∙_}
 use mathlib.Core.Bool.{false, _&&_}

@@ -1,3 +1,4 @@
+-- A node that sends in p is not silent; of another, s decides.
 use Rattle.laws.proofs.Tests.{tests}
 use Rattle.shown.proofs.players.is_silent.Statement.{statement}
 use Rattle.shown.proofs.players.is_silent.Tie as tie

@@ -1,5 +1,7 @@
-use mathlib.Core.Path.{_≡_, refl, ap, _∙_}
-use mathlib.Core.Bool.{Bool, true, false, _&&_}
+-- By the rule. In rule 2 the node that sends in s is below N (`widest`), so its slot can be read; in rule 3 both
+-- slots are 0, and silent in both is silent in one (`and-self`).
+use mathlib.Core.Path.{ap, _∙_}
+use mathlib.Core.Bool.{_&&_, and-self}
 use native.Mathlib.Omega.{arith}
 use Rattle.laws.specs.Below.{firstBelow}
 use Rattle.plan.specs.Sending.{own}
@@ -9,10 +11,6 @@ use Rattle.shown.specs.Parts.{silentIn, partsWith, partsFor}
 use borrow.Author.Needs.{needs}
 use Rattle.shown.proofs.players.parts_tested.Statement.{statement}
 use Rattle.shown.proofs.players.parts_tested.Tie as tie
-
-and-self : (b : Bool) → (b && b) ≡ b
-and-self true = refl
-and-self false = refl
 
 enum-told : tie.Need-enum-told
 enum-told c = search needs

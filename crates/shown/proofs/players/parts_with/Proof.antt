@@ -1,3 +1,4 @@
+-- p and the fast node as they are given, and the sender that is found in p.
 use borrow.Author.Needs.{needs}
 use Rattle.shown.proofs.players.parts_with.Statement.{statement}
 use Rattle.shown.proofs.players.parts_with.Tie as tie

@@ -1,3 +1,4 @@
+-- D is M, or it is not.
 use Rattle.laws.proofs.Tests.{tests}
 use Rattle.shown.proofs.players.predecessor_at.Statement.{statement}
 use Rattle.shown.proofs.players.predecessor_at.Tie as tie

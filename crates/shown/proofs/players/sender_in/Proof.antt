@@ -1,3 +1,4 @@
+-- After i turns no node below i sends in the slot; the first that does is its sender, N where there is none.
 use Prim.Native.Nat.{ℕ, _≤_, _<_, _-_}
 use mathlib.Core.Path.{_≡_, sym}
 use mathlib.Core.Bool.{false}

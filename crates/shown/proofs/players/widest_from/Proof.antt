@@ -1,3 +1,4 @@
+-- After i turns `least` is the smallest predecessor, at D = M, of the nodes below i; C where D is M for none of them.
 use Prim.Native.Nat.{ℕ, _≤_, _-_}
 use mathlib.Core.Path.{_≡_, sym, ap, _∙_}
 use native.Mathlib.Omega.{arith}

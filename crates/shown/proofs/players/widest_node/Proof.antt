@@ -1,3 +1,4 @@
+-- After i turns p is the predecessor, at D = M, of no node below i; `predecessor-held` says that the table holds each.
 use Prim.Native.Nat.{ℕ, _≤_, _<_, _-_}
 use mathlib.Core.Path.{_≡_, sym, _∙_}
 use mathlib.Core.Bool.{false}
