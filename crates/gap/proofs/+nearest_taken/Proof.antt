@@ -1,3 +1,5 @@
+-- The slots left are the measure. A free slot is passed by `nearest-on` and the row of free slots before it by
+-- `nearest-skip`, so the call on what is left finds the same slot.
 use mathlib.Core.Path.{_∙_}
 use denote.Ref.{now}
 use native.Mathlib.Omega.{arith}

@@ -1,3 +1,5 @@
+-- After i turns the first i places hold their nodes' predecessor and D, the others 0.
+-- The own slots of a tested plan lie in the frame, which is what `node_distance` asks.
 use Rattle.gap.specs.Distances.{nodeDistance, noDistance, distancesOf}
 use Rattle.gap.specs.declared.NodeDistance.{NodeDistance}
 use Rattle.plan.proofs.Sound.{sound, own-in-frame}

@@ -1,3 +1,4 @@
+-- After `count` turns none of so many slots from the slot backwards is taken. Slot 0 is not passed, so nothing wraps.
 use borrow.Author.Tests.{ne-eqb}
 use Rattle.gap.proofs.Table.{free-more}
 use Rattle.gap.specs.Distances.{Free}

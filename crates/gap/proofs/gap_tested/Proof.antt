@@ -1,3 +1,4 @@
+-- After i turns `widest` is the largest of the first i distances; `distances-at` says that each is its node's D.
 use Rattle.gap.proofs.Table.{distances-at}
 use Rattle.gap.specs.Distances.{noDistance}
 use Rattle.gap.specs.Gap.{distanceFor, gapOf}

@@ -1,3 +1,4 @@
+-- The table marks exactly the sending slots, so the nearest taken slot before a slot is its predecessor.
 use Rattle.gap.proofs.Table.{nearest-same, taken-sends}
 use Rattle.gap.specs.Distances.{taken}
 use Rattle.gap.specs.Gap.{slotBefore, predecessor, distanceBefore}

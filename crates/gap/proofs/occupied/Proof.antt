@@ -1,3 +1,4 @@
+-- After i turns a slot holds 1 where a node below i sends, else 0. Own slots lie in the frame, and so in the table.
 use Rattle.gap.proofs.Table.{Marked, marked-none, marked-more}
 use Rattle.plan.proofs.Sound.{own-in-frame}
 use Rattle.plan.specs.Sending.{sends}

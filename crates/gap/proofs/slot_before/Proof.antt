@@ -1,3 +1,4 @@
+-- Before slot 0 is the frame's last slot; before any other is the slot one less.
 use native.Mathlib.Omega.{arith}
 use borrow.Author.Needs.{needs}
 use Rattle.gap.proofs.Table.{before-0, before-other}

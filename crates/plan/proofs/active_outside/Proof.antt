@@ -1,3 +1,4 @@
+-- n is 0, or C is below n: the definition's two tests in its order.
 use Rattle.plan.specs.Tested.{activeOutside}
 use Rattle.laws.proofs.Tests.{tests}
 use Rattle.plan.proofs.active_outside.Statement.{statement}

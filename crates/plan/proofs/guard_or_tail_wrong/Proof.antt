@@ -1,3 +1,4 @@
+-- g is 0, t is 0, or g + t + 2 is above k0; in 32 bits the sum of two bytes and 2 does not wrap.
 use Rattle.plan.specs.Tested.{guardOrTailWrong}
 use Rattle.laws.proofs.Tests.{tests}
 use borrow.Author.Needs.{needs}

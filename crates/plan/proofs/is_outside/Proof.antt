@@ -1,3 +1,4 @@
+-- Below the low end, or else above the high end.
 use Rattle.laws.proofs.Tests.{tests}
 use Rattle.plan.proofs.is_outside.Statement.{statement}
 use Rattle.plan.proofs.is_outside.Tie as tie

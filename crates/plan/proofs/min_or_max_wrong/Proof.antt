@@ -1,3 +1,4 @@
+-- min is 0, max is below min, or max is above 2,000,000: the definition's three tests in its order.
 use Rattle.plan.specs.Tested.{minOrMaxWrong}
 use Rattle.laws.proofs.Tests.{tests}
 use Rattle.plan.proofs.min_or_max_wrong.Statement.{statement}

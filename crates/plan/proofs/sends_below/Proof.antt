@@ -1,3 +1,4 @@
+-- After i turns no node below i sends in the slot; the first that does decides.
 use borrow.Author.Tests.{eq-eqb, ne-eqb}
 use Rattle.plan.specs.Sending.{own}
 use Rattle.laws.proofs.Belows.{any-none, any-more, any-found}

@@ -1,3 +1,4 @@
+-- Node i's own slot, asked of the nodes below i.
 use Rattle.plan.specs.Tested.{sharesSlot}
 use borrow.Author.Needs.{needs}
 use Rattle.plan.proofs.shares_slot.Statement.{statement}

@@ -1,3 +1,4 @@
+-- After i turns the slot of every node below i is active; the first that is n or more decides.
 use Rattle.plan.specs.Tested.{someNotActive}
 use borrow.Author.Tests.{le-leb, lt-leb}
 use Rattle.plan.specs.Sending.{own}

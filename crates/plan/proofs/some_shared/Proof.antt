@@ -1,3 +1,4 @@
+-- After i turns no node below i sends in the slot of a node before it; the first that does decides.
 use Rattle.plan.specs.Tested.{sharesSlot, someShared}
 use Rattle.laws.proofs.Belows.{any-none, any-more, any-found}
 use Rattle.laws.specs.Below.{anyBelow}

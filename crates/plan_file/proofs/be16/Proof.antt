@@ -1,3 +1,4 @@
+-- Two bytes, each below 256: 256 times the high one and the low one stay below 65,536, so nothing wraps.
 use Rattle.plan_file.specs.File.{be16Of}
 use borrow.Author.Needs.{needs}
 use Rattle.plan_file.proofs.be16.Statement.{statement}

@@ -1,3 +1,4 @@
+-- Four bytes, each below 256, by their weights: every sum on the way stays below 4,294,967,296, so nothing wraps.
 use Rattle.plan_file.specs.File.{be32Of}
 use borrow.Author.Needs.{needs}
 use Rattle.plan_file.proofs.be32.Statement.{statement}

@@ -1,3 +1,5 @@
+-- 20, 21, 22 in turn: where a test holds its row gives the number, where it doesn't the rows after it decide.
+-- A file that 20 lets through has 5 bytes (`mark-long`), so its version can be read.
 use mathlib.Core.List.{[]}
 use denote.Ref.{now}
 use Rattle.plan_file.proofs.Passed.{mark-long}

@@ -1,3 +1,4 @@
+-- N is read only where 21 bytes are there; a byte is below 256, so 21 + 2 × N does not wrap.
 use native.Mathlib.Omega.{arith}
 use Rattle.plan_file.specs.File.{lengthWrong}
 use Rattle.laws.proofs.Tests.{tests}

@@ -1,3 +1,4 @@
+-- The length, then the three letters in turn; they are read only where 5 bytes are there.
 use Rattle.plan_file.specs.File.{markWrong}
 use Rattle.laws.proofs.Tests.{tests}
 use borrow.Author.Needs.{needs}

@@ -1,3 +1,4 @@
+-- Each number is 0, and so is each of the 32 places.
 use Rattle.plan_file.specs.File.{noPlan}
 use borrow.Author.Needs.{needs}
 use Rattle.plan_file.proofs.no_plan.Statement.{statement}

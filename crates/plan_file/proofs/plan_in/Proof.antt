@@ -1,3 +1,4 @@
+-- Each number is read at its place in the format, within the 21 bytes that are there; `slots_in` reads the slots.
 use Rattle.plan_file.specs.File.{planOf}
 use mathlib.Core.Path.{refl}
 use native.Mathlib.Omega.{arith}

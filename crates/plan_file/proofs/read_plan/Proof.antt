@@ -1,3 +1,4 @@
+-- 20 to 22, then 1 to 9, then the plan. A file that 20 to 22 let through is whole, so the plan can be read from it.
 use Rattle.plan_file.proofs.Passed.{whole}
 use Rattle.plan_file.specs.File.{takenOf, readOf}
 use borrow.Author.Tests.{eq-eqb, ne-eqb}

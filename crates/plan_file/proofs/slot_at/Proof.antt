@@ -1,3 +1,4 @@
+-- A place below N has two bytes from 21 + 2 × place on, within the file's length; a place from N on is 0.
 use Rattle.laws.proofs.Tests.{tests}
 use mathlib.Core.Path.{sym}
 use Rattle.plan_file.specs.File.{slotAt}

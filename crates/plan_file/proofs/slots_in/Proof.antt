@@ -1,3 +1,4 @@
+-- After `place` turns the first so many places hold the file's slots, the others 0.
 use denote.Ref.{now}
 use Rattle.plan_file.specs.File.{slotAt, slotsOf}
 use Rattle.plan.specs.declared.Slot.{Slot}

@@ -1,3 +1,4 @@
+-- A number that is not 0 is the refusal; 0 is what the distances, M and the verdict ask for, one after the other.
 use Rattle.rules.specs.Rules.{judgedOf}
 use borrow.Author.Tests.{eq-eqb, ne-eqb}
 use mathlib.Core.Path.{sym, _∙_}

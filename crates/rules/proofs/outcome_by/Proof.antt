@@ -1,3 +1,4 @@
+-- The rules in their order; a rule fails where its right side is at most its left.
 use Rattle.rules.specs.Rules.{outcomeBy}
 use Rattle.laws.proofs.Tests.{tests}
 use Rattle.rules.proofs.outcome_by.Statement.{statement}

@@ -1,3 +1,4 @@
+-- M is 1 to C − 1, so M·k0 is at least k0, which is above g, and at most a frame's ticks: nothing wraps.
 use Rattle.rules.specs.Rules.{sidesAt}
 use borrow.Author.Needs.{needs}
 use Rattle.rules.proofs.sides_one.Statement.{statement}

@@ -1,3 +1,4 @@
+-- g + t + 2 is at most k0, so no difference wraps; M plays no part.
 use Rattle.rules.specs.Rules.{sidesAt}
 use borrow.Author.Needs.{needs}
 use Rattle.rules.proofs.sides_three.Statement.{statement}

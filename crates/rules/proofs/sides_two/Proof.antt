@@ -1,3 +1,4 @@
+-- M + 1 is at most C, so its ticks are at most a frame's; they are at least k0, which is above g + 2, so nothing wraps.
 use Rattle.rules.specs.Rules.{sidesAt}
 use borrow.Author.Needs.{needs}
 use Rattle.rules.proofs.sides_two.Statement.{statement}

@@ -1,3 +1,4 @@
+-- 4,096 slots of 255 ticks are 1,044,480, which is the bound; one slot or more has at least k0 ticks.
 use Prim.Native.Nat.{_≤_}
 use native.Mathlib.Nat.{mul-le-mul, mul-le-mul-right}
 use mathlib.Core.Path.{refl}

@@ -1,3 +1,4 @@
+-- 1,044,480 ticks of 2,000,000 time units each fit in 64 bits.
 use native.Mathlib.Omega.{arith}
 use Rattle.laws.proofs.Products.{fits-product}
 use borrow.Author.Needs.{needs}

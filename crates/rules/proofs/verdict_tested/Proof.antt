@@ -1,3 +1,4 @@
+-- M is at least 1 and below C (`gap-low`, `gap-below-frame`), as the sides ask; then field by field at M.
 use Rattle.rules.specs.Rules.{verdictAt, verdictOf}
 use Rattle.gap.proofs.Bounds.{gap-low, gap-below-frame}
 use Rattle.plan.proofs.Sound.{sound}
