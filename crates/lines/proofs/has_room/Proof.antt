@@ -1,3 +1,4 @@
+-- A buffer shorter than the room has none. From a longer one the room is taken off: at + room could wrap.
 use Prim.Native.Nat.{ℕ, _+_, _-_, _≤_}
 use mathlib.Core.Path.{_≡_, refl, sym, _∙_}
 use mathlib.Core.Bool.{Bool, true, false}

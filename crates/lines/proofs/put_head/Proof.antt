@@ -1,3 +1,4 @@
+-- N after its words, M after its word, a newline: at most 22, 15 and 1 bytes, so 38.
 use Rattle.text.proofs.Puts.{_then_}
 use borrow.Author.Needs.{needs}
 use Rattle.lines.proofs.put_head.Statement.{statement}

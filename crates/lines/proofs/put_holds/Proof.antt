@@ -1,3 +1,4 @@
+-- Left less than right is what `holds` tests; the word for either answer has 7 bytes.
 use borrow.Author.Tests.{lt-ltb, le-ltb}
 use borrow.Author.Needs.{needs}
 use Rattle.lines.proofs.put_holds.Statement.{statement}

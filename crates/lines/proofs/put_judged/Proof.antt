@@ -1,3 +1,4 @@
+-- The five lines of a verdict, or the one of a refusal, for which 254 bytes are more than it needs.
 use native.Mathlib.Omega.{arith}
 use Rattle.lines.specs.Out.{judgedText}
 use Rattle.text.proofs.Puts.{put-more}

@@ -1,3 +1,4 @@
+-- Letter, blank, number, newline: at most 1, 1, 10 and 1 bytes, so 13.
 use Rattle.text.proofs.Puts.{_then_}
 use borrow.Author.Needs.{needs}
 use Rattle.lines.proofs.put_line.Statement.{statement}

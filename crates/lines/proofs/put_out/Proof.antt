@@ -1,3 +1,4 @@
+-- The two nodes, each after its word, and a newline: at most 14, 11 and 1 bytes, so 26.
 use Rattle.text.proofs.Puts.{_then_}
 use Rattle.lines.specs.Out.{outText}
 use borrow.Author.Needs.{needs}

@@ -1,3 +1,4 @@
+-- Accepted has 16 bytes; a failed rule is named by its number, with at most 23 bytes and a newline.
 use native.Mathlib.Omega.{arith}
 use Rattle.text.proofs.Puts.{put-more, _then_}
 use borrow.Author.Needs.{needs}

@@ -1,3 +1,4 @@
+-- The number after its word and a newline: at most 18 and 1 bytes.
 use Rattle.text.proofs.Puts.{_then_}
 use borrow.Author.Needs.{needs}
 use Rattle.lines.proofs.put_refused.Statement.{statement}

@@ -1,3 +1,4 @@
+-- The rule's number, left side, right side, outcome: at most 15, 21, 21 and 7 bytes, so 64.
 use Rattle.text.proofs.Puts.{_then_}
 use borrow.Author.Needs.{needs}
 use Rattle.lines.proofs.put_rule.Statement.{statement}

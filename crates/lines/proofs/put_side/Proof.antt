@@ -1,3 +1,4 @@
+-- A blank and a 64-bit number: at most 1 and 20 bytes.
 use Rattle.text.proofs.Puts.{_then_}
 use borrow.Author.Needs.{needs}
 use Rattle.lines.proofs.put_side.Statement.{statement}

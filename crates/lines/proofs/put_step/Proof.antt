@@ -1,3 +1,4 @@
+-- Delay, tick and send are the same line, each with its letter and its own number.
 use Rattle.lines.specs.Out.{stepText}
 use borrow.Author.Needs.{needs}
 use Rattle.lines.proofs.put_step.Statement.{statement}

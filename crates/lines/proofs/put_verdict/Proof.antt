@@ -1,3 +1,4 @@
+-- Line 1, the three rule lines, the verdict line: at most 38, three times 64, and 24 bytes, so 254.
 use Rattle.text.proofs.Puts.{_then_}
 use borrow.Author.Needs.{needs}
 use Rattle.lines.proofs.put_verdict.Statement.{statement}

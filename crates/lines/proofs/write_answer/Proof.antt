@@ -1,3 +1,4 @@
+-- Room for 32 bytes is room for the 19 that an answer may have; with less room nothing is put.
 use mathlib.Core.Path.{sym, _∙_}
 use native.Mathlib.Omega.{arith}
 use borrow.Author.Tests.{leb-true}

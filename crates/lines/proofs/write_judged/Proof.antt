@@ -1,3 +1,4 @@
+-- 256 bytes are asked for and a verdict has at most 254; where they are not there the buffer stays as it was.
 use mathlib.Core.Path.{sym, _∙_}
 use native.Mathlib.Omega.{arith}
 use borrow.Author.Tests.{leb-true}

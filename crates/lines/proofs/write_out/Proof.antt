@@ -1,3 +1,4 @@
+-- The `out` line has at most 26 bytes, so 32 hold it; without 32 no byte is touched.
 use mathlib.Core.Path.{sym, _∙_}
 use native.Mathlib.Omega.{arith}
 use borrow.Author.Tests.{leb-true}

@@ -1,3 +1,4 @@
+-- `has_room` decides: 32 bytes hold the 19 of a refusal; with fewer the answer is NoRoom.
 use mathlib.Core.Path.{sym, _∙_}
 use native.Mathlib.Omega.{arith}
 use borrow.Author.Tests.{leb-true}

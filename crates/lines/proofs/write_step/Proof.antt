@@ -1,3 +1,4 @@
+-- A step line has at most 13 bytes, which 32 hold; short of 32 the line is not begun.
 use mathlib.Core.Path.{sym, _∙_}
 use native.Mathlib.Omega.{arith}
 use borrow.Author.Tests.{leb-true}

@@ -1,3 +1,4 @@
+-- The number is the measure. Below 10 it is one digit; from 10 on its tenth, which is less, and then its last digit.
 use mathlib.Core.Path.{ap}
 use lib.ListN.{length}
 use native.Mathlib.Omega.{arith}

@@ -1,3 +1,4 @@
+-- A number below 2 ^ 32 has at most 10 digits, so 10 bytes are room for it.
 use native.Mathlib.Omega.{arith}
 use borrow.Author.Needs.{needs}
 use Rattle.text.proofs.Decimals.{decimal-number}

@@ -1,3 +1,4 @@
+-- The number is put where the word ended, so both are one text.
 use Rattle.text.proofs.Puts.{_then_}
 use borrow.Author.Needs.{needs}
 use Rattle.text.proofs.put_numbered.Statement.{statement}

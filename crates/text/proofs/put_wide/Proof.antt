@@ -1,3 +1,4 @@
+-- 20 places hold every number below 2 ^ 64, so 20 bytes are room for it.
 use native.Mathlib.Omega.{arith}
 use borrow.Author.Needs.{needs}
 use Rattle.text.proofs.Decimals.{decimal-wide}

@@ -1,3 +1,4 @@
+-- After i turns the word's first i bytes stand from `at` on. The buffer keeps its length, so the next write lies in it.
 use denote.Ref.{now}
 use Prim.Native.Nat.{_≤_, _-_}
 use mathlib.Core.Path.{_≡_, refl, _∙_}
