@@ -1,3 +1,4 @@
+-- 156 − k falls. A record is cut out only where its end lies within the bytes, so name and record lie in them.
 use Prim.Native.Nat.{_-_}
 use borrow.Author.Needs.{needs}
 use Rattle.step_cases.proofs.cases.Statement.{statement}

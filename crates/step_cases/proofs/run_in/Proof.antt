@@ -1,3 +1,4 @@
+-- 32 − i falls; i is below 32, so it is a place of the run, and a node's bytes begin below 1,000, as `node_in` asks.
 use Prim.Native.Nat.{_-_}
 use borrow.Author.Needs.{needs}
 use Rattle.step_cases.proofs.run_in.Statement.{statement}

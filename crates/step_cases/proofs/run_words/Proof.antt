@@ -1,3 +1,4 @@
+-- `to` − i falls, as i is below `to` in each turn; it is below 32 too, so it is a place of the run.
 use Prim.Native.Nat.{_-_}
 use borrow.Author.Needs.{needs}
 use Rattle.step_cases.proofs.run_words.Statement.{statement}

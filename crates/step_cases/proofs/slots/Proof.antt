@@ -1,3 +1,4 @@
+-- 32 − i falls; i is below 32, so it is a place of the array, and 60 + 2 × i does not wrap.
 use Prim.Native.Nat.{_-_}
 use borrow.Author.Needs.{needs}
 use Rattle.step_cases.proofs.slots.Statement.{statement}

@@ -1,3 +1,4 @@
+-- Two loops, one over each table: 18 − i and 20 − i fall, and i is below the number of rows.
 use Prim.Native.Nat.{_-_}
 use borrow.Author.Needs.{needs}
 use Rattle.worked_numbers.proofs.main.Statement.{statement}

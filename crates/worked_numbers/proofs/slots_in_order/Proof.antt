@@ -1,3 +1,4 @@
+-- 32 − i falls; i is below 32, so it is a place of the array and fits in 16 bits.
 use Prim.Native.Nat.{_-_}
 use borrow.Author.Needs.{needs}
 use Rattle.worked_numbers.proofs.slots_in_order.Statement.{statement}

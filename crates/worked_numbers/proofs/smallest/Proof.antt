@@ -1,3 +1,4 @@
+-- 1,000 − min falls; min is below 1,000, so one more does not wrap.
 use Prim.Native.Nat.{_-_}
 use borrow.Author.Needs.{needs}
 use Rattle.worked_numbers.proofs.smallest.Statement.{statement}
