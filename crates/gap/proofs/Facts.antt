@@ -6,7 +6,7 @@ use mathlib.Core.Bool.{true}
 use Rattle.laws.specs.Ring.{distance}
 use Rattle.plan.specs.declared.Plan.{Plan}
 use Rattle.plan.specs.Sending.{own, sends}
-use Rattle.gap.specs.Gap.{predecessor, distanceFor}
+use Rattle.gap.specs.Gap.{distanceFor}
 
 -- The next sending slot after p is d slots away: a node sends there, and no node sends nearer.
 pub record NextAt (P : Plan) (p d : ℕ) : Type 0 where

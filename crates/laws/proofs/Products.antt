@@ -1,5 +1,5 @@
 -- Laws of products: a difference times a factor, and products that fit a u64.
-use Prim.Native.Nat.{ℕ, _+_, _*_, _-_, _^_, _≤_, _<_}
+use Prim.Native.Nat.{ℕ, _+_, _*_, _-_, _^_, _≤_}
 use mathlib.Core.Path.{_≡_}
 use native.Mathlib.Nat.{add-mul, sub-add-cancel, mul-le-mul, lt-of-le-of-lt}
 use lib.Dec.{T, ltb, lit<}
