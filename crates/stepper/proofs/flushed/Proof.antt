@@ -3,23 +3,16 @@ use mathlib.Core.Path.{sym}
 use borrow.Author.Needs.{needs}
 use Rattle.stepper.proofs.flushed.Statement.{statement}
 use Rattle.stepper.proofs.flushed.Tie as tie
-use Rattle.stepper.proofs.flushed.Reads as reads
-use Rattle.stepper.proofs.flushed.Lts as lts
-use Rattle.io.proofs.write_all.Reads as write-all-reads
 
--- src/main.rt:111:38
 slice-aggregate-write-all : tie.Need-slice-aggregate-write-all
 slice-aggregate-write-all c = sym (length-take-le _ _ (search needs))
 
--- src/main.rt:111:9
 write-all-requires : tie.Need-write-all-requires
 write-all-requires c κs = search needs
 
--- src/main.rt:109:1
 returns : tie.Need-returns
 returns c = search needs
 
--- src/main.rt:109:1
 returns-2 : tie.Need-returns-2
 returns-2 c = search needs
 

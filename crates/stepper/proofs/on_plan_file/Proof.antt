@@ -2,42 +2,31 @@ use Rattle.plan.specs.Tested.{planNumber}
 use Rattle.plan_file.proofs.Passed.{taken-passes}
 use Rattle.plan_file.specs.declared.PlanRead.{PlanRead}
 use Rattle.plan.proofs.Sound.{sound}
-use mathlib.Core.Path.{_≡_, sym, ap, _∙_}
+use mathlib.Core.Path.{sym, ap, _∙_}
 use borrow.Author.Needs.{needs}
 use Rattle.stepper.proofs.on_plan_file.Statement.{statement}
 use Rattle.stepper.proofs.on_plan_file.Tie as tie
-use Rattle.stepper.proofs.on_plan_file.Reads as reads
-use Rattle.stepper.proofs.on_plan_file.Lts as lts
-use Rattle.plan_file.proofs.read_plan.Reads as read-plan-reads
-use Rattle.stepper.proofs.all_steps.Reads as all-steps-reads
-use Rattle.stepper.proofs.refused.Reads as refused-reads
 
--- src/main.rt:159:9
 read-plan-requires : tie.Need-read-plan-requires
 read-plan-requires c κs = search needs
 
 enum-told : tie.Need-enum-told
 enum-told c = search needs
 
--- src/main.rt:162:9
 enum-told-2 : tie.Need-enum-told-2
 enum-told-2 c = search needs
 
--- src/main.rt:162:9
 refused-requires : tie.Need-refused-requires
 refused-requires c κs = search needs
 
--- src/main.rt:163:9
 returns : tie.Need-returns
 returns c = search needs
 
--- src/main.rt:166:5
 all-steps-requires : tie.Need-all-steps-requires
 all-steps-requires c κs = let e = c .before .before .before .read-plan .ensures in
     let told = ap (λ (r : PlanRead). r .answer) (sym e) ∙ c .before .enum-told .given .1 in
     sound _ (ap (λ (r : PlanRead). planNumber (r .plan)) e ∙ taken-passes _ told)
 
--- src/main.rt:158:1
 returns-2 : tie.Need-returns-2
 returns-2 c = search needs
 

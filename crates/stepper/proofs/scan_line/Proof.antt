@@ -1,12 +1,9 @@
 use lib.ListN.{length}
 use native.Mathlib.Omega.{arith}
-use Prim.Native.Nat.{ℕ, _≤_, _<_, _-_}
+use Prim.Native.Nat.{_≤_, _-_}
 use borrow.Author.Needs.{needs}
 use Rattle.stepper.proofs.scan_line.Statement.{statement}
 use Rattle.stepper.proofs.scan_line.Tie as tie
-use Rattle.stepper.proofs.scan_line.Reads as reads
-use Rattle.stepper.proofs.scan_line.Lts as lts
-use Rattle.step_lines.proofs.reading_byte.Reads as reading-byte-reads
 
 abbrev Inv-loop : tie.InvT-loop
 Inv-loop block from line₀ at₀ line at = (from ≤ at) × (at ≤ length block)
@@ -14,35 +11,27 @@ Inv-loop block from line₀ at₀ line at = (from ≤ at) × (at ≤ length bloc
 abbrev μ-loop : tie.MeasureT-loop
 μ-loop block from line₀ at₀ line at = length block - at
 
--- src/main.rt:42:5
 loop-holds : tie.Need-loop-holds Inv-loop μ-loop
 loop-holds c = omega arith
 
--- src/main.rt:43:20
 shared-slice-read-byte : tie.Need-shared-slice-read-byte Inv-loop μ-loop
 shared-slice-read-byte c = search needs
 
--- src/main.rt:44:13
 reading-byte-requires : tie.Need-reading-byte-requires Inv-loop μ-loop
 reading-byte-requires c κs = search needs
 
--- src/main.rt:46:14
 add-at : tie.Need-add-at Inv-loop μ-loop
 add-at c = search needs
 
--- src/main.rt:48:13
 returns : tie.Need-returns Inv-loop μ-loop
 returns c = omega arith
 
--- src/main.rt:42:5
 loop-less : tie.Need-loop-less Inv-loop μ-loop
 loop-less c = omega arith
 
--- src/main.rt:42:5
 loop-again : tie.Need-loop-again Inv-loop μ-loop
 loop-again c = omega arith
 
--- src/main.rt:36:1
 returns-2 : tie.Need-returns-2 Inv-loop μ-loop
 returns-2 c = omega arith
 
