@@ -1,6 +1,6 @@
 #!/bin/sh
-# Whether every citation of docs/TRACE.md still holds: the line is there, and the definition named stands on it or is the
-# one that it belongs to. Says which do not, and fails.
+# Whether every citation of docs/TRACE.md still holds: the line is there, is no comment, and the definition named stands on
+# it or is the one that it belongs to. Says which do not, and fails.
 cd "$(dirname "$0")/.." || exit 2
 grep -o '`[A-Za-z0-9_/.-]*:[0-9][0-9]*[^`]*`\|`[A-Za-z0-9_/.-]*/[A-Za-z0-9_.-][A-Za-z0-9_.-]*`' docs/TRACE.md | tr -d '`' | {
     wrong=0
@@ -26,7 +26,8 @@ grep -o '`[A-Za-z0-9_/.-]*:[0-9][0-9]*[^`]*`\|`[A-Za-z0-9_/.-]*/[A-Za-z0-9_.-][A
             /^[^ ]/ && !/^[-\/]/ { block = "" }
             { block = block " " $0 }
             NR == line { n = split(block, word, /[ (){}:;,<]+/); found = name == ""
-                         for (i = 1; i <= n; i++) if (word[i] == name) found = 1 }
+                         for (i = 1; i <= n; i++) if (word[i] == name) found = 1
+                         if ($0 ~ /^ *(--|\/\/)/ || $0 ~ /^ *$/) found = 0 }
             END { exit NR >= line && found ? 0 : 1 }' "crates/$path"; then
             echo "does not hold: $path:$line $name"
             wrong=$((wrong + 1))

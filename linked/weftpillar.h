@@ -58,7 +58,8 @@ uint8_t weftpillar_fresh_place(uint8_t *place, size_t place_length);
 uint8_t weftpillar_step(const uint8_t *plan, size_t plan_length, uint8_t *run, size_t run_length, uint8_t letter,
                         uint32_t number);
 
-/* Many steps, 5 bytes each, one after the other, with the plan and the run tested once. `answers` gets one byte a step:
+/* Many steps, 5 bytes each, one after the other, with the plan and the run tested once, before any step is looked at: 10
+   is the call's answer, whatever the steps are. `answers` gets one byte a step:
    0, or the number of its refusal (19 for another letter); a refused step changes nothing and the next one is tried.
    255 unless steps_length is 5 * answers_length. */
 uint8_t weftpillar_steps(const uint8_t *plan, size_t plan_length, uint8_t *run, size_t run_length, const uint8_t *steps,

@@ -1,5 +1,4 @@
 -- Demand 3, both halves over one verdict: what the judge's outcome means.
-use Prim.Native.Nat.{ℕ}
 use mathlib.Core.Path.{_≡_}
 use mathlib.Core.List.{List}
 use Rattle.plan.specs.declared.Plan.{Plan}

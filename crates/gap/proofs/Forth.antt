@@ -15,8 +15,8 @@ use Rattle.plan.specs.declared.Plan.{Plan}
 use Rattle.plan.specs.Sending.{own, sends}
 use Rattle.plan.specs.Tested.{Sound}
 use Rattle.plan.proofs.Sound.{sends-by, own-sends, own-in-frame}
-use Rattle.gap.specs.Gap.{predecessor, distanceFor, gapOf, slotsToNext}
-use Rattle.gap.proofs.Facts.{NextAt}
+use Rattle.gap.specs.Gap.{predecessor, distanceFor, gapOf}
+use Rattle.gap.proofs.Facts.{slotsToNext, NextAt}
 use Rattle.gap.proofs.Others.{other}
 use Rattle.gap.proofs.Back.{before-own}
 

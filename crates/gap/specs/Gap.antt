@@ -1,7 +1,7 @@
 -- Predecessor, D(s) and M.
 use Prim.Native.Nat.{ℕ, zero, suc, _+_, _-_, _%_}
 use mathlib.Core.Bool.{Bool, true, false}
-use Rattle.laws.specs.Below.{firstFrom, largestBelow}
+use Rattle.laws.specs.Below.{largestBelow}
 use Rattle.laws.specs.Ring.{distance}
 use Rattle.plan.specs.declared.Plan.{Plan}
 use Rattle.plan.specs.Sending.{own, sends}
@@ -30,7 +30,3 @@ distanceFor P i = distanceBefore P (own P i)
 -- M: the largest D over sending slots.
 unfoldable pub gapOf : Plan → ℕ
 gapOf P = largestBelow (P .nodes .0) (distanceFor P)
-
--- The number of slots from p to the next sending slot after it, forward round the frame; C where no other sends. No promise uses it.
-unfoldable pub slotsToNext : Plan → ℕ → ℕ
-slotsToNext P p = firstFrom (λ d. sends P ((p + d) % P .frame .0)) (P .frame .0 - 1) 1

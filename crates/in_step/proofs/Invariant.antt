@@ -10,8 +10,7 @@ use Rattle.laws.specs.Ring.{distance}
 use Rattle.plan.specs.declared.Plan.{Plan}
 use Rattle.plan.specs.Sending.{own}
 use Rattle.plan.proofs.Sound.{Sender}
-use Rattle.gap.specs.Gap.{slotsToNext}
-use Rattle.gap.proofs.Facts.{NextAt}
+use Rattle.gap.proofs.Facts.{slotsToNext, NextAt}
 use Rattle.rules.proofs.Distances.{Rule1, Rule2, Rule3}
 use Rattle.run.specs.declared.Mode.{Mode}
 use Rattle.run.specs.declared.Mode.the-variants.{Waiting, AboutToSend, Sending}

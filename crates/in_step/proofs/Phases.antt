@@ -14,7 +14,7 @@ use Rattle.plan.specs.declared.Slot.{Slot}
 use Rattle.plan.specs.Sending.{own}
 use Rattle.plan.specs.Tested.{Sound}
 use Rattle.plan.proofs.Sound.{sends-by, own-in-frame}
-use Rattle.gap.specs.Gap.{slotsToNext}
+use Rattle.gap.proofs.Facts.{slotsToNext}
 use Rattle.gap.proofs.Forth.{next-at, next-within}
 use Rattle.rules.proofs.Distances.{RulesHold}
 use Rattle.run.specs.declared.Last.{Last}

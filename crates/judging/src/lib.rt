@@ -9,6 +9,7 @@ use libc::STDOUT_FILENO;
 use lines::Wrote;
 use lines::write_judged;
 use lines::write_out;
+use lines::write_refused;
 use lines::write_step;
 use plan::Plan;
 use plan_file::Read;
@@ -105,9 +106,12 @@ fn judged(plan: Plan, out: &mut [u8])
     show(plan, parts, out, waiting);
 }
 
-fn refused(plan: Plan, number: u8, out: &mut [u8]) {
-    let waiting = waiting_after(write_judged(out, 0, plan.nodes, Judged::Refused(number)), 0);
-    flushed(out, waiting);
+// The one line of a refused plan, which goes no further.
+fn refused(answer: Read, out: &mut [u8]) {
+    if let Read::Refused(number) = answer {
+        let waiting = waiting_after(write_refused(out, 0, number), 0);
+        flushed(out, waiting);
+    }
 }
 
 // The judge's whole text of a plan file, on standard output.
@@ -116,8 +120,9 @@ pub fn tell(file: &[u8]) {
     let read = read_plan(file);
     let plan = read.plan;
     let answer = read.answer;
-    match answer {
-        Read::Taken => judged(plan, &mut out),
-        Read::Refused(number) => refused(plan, number, &mut out),
-    }
+    let Read::Taken = answer else {
+        refused(answer, &mut out);
+        return;
+    };
+    judged(plan, &mut out);
 }

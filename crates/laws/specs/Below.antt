@@ -1,5 +1,5 @@
 -- Questions about the numbers below n: does one pass, do all, which is the first, what is the largest or the least value.
-use Prim.Native.Nat.{ℕ, zero, suc, _-_, min, max}
+use Prim.Native.Nat.{ℕ, zero, suc, min, max}
 use mathlib.Core.Bool.{Bool, true, false, _&&_, _||_}
 
 -- Some number below n passes.
@@ -13,7 +13,7 @@ allBelow zero f = true
 allBelow (suc n) f = allBelow n f && f n
 
 -- The first number from i on that passes, of at most `left` numbers; i + left where none does.
-unfoldable pub firstFrom : (ℕ → Bool) → ℕ → ℕ → ℕ
+unfoldable pub firstFrom : (ℕ → Bool) → (left i : ℕ) → ℕ
 firstFrom f zero i = i
 firstFrom f (suc left) i = elim (f i) [ true ↦ i | false ↦ firstFrom f left (suc i) ]
 
@@ -27,6 +27,6 @@ largestBelow zero f = 0
 largestBelow (suc n) f = max (largestBelow n f) (f n)
 
 -- The least of `top` and of the values at the numbers below n.
-unfoldable pub leastBelow : ℕ → ℕ → (ℕ → ℕ) → ℕ
+unfoldable pub leastBelow : (top n : ℕ) → (ℕ → ℕ) → ℕ
 leastBelow top zero f = top
 leastBelow top (suc n) f = min (leastBelow top n f) (f n)

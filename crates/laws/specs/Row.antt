@@ -19,5 +19,5 @@ firstOf [] = 0
 firstOf (row ∷ rows) = cond (row .holds) (row .number) (firstOf rows)
 
 -- x lies outside low..high, both ends included.
-abbrev pub outside : ℕ → ℕ → ℕ → Bool
+abbrev pub outside : (low high x : ℕ) → Bool
 outside low high x = ltb x low || ltb high x

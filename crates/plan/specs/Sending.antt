@@ -10,9 +10,9 @@ use Rattle.plan.specs.declared.Plan.{Plan}
 abbrev pub own : Plan → ℕ → ℕ
 own P i = getD (P .slots) i (record { 0 = 0 }) .0
 
--- Some node below n sends in slot s.
-abbrev pub sendsBelow : Plan → (n s : ℕ) → Bool
-sendsBelow P n s = anyBelow n (λ i. eqb (own P i) s)
+-- Some node below `count` sends in slot s.
+abbrev pub sendsBelow : Plan → (count s : ℕ) → Bool
+sendsBelow P count s = anyBelow count (λ i. eqb (own P i) s)
 
 -- Some node sends in slot s.
 unfoldable pub sends : Plan → ℕ → Bool

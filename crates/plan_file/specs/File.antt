@@ -10,7 +10,6 @@ use Rattle.plan.specs.declared.Plan.{Plan}
 use Rattle.plan.specs.declared.Slot.{Slot}
 use Rattle.plan.specs.Refusals.{not-a-plan-file, version-unknown, length-wrong}
 use Rattle.plan.specs.Tested.{planNumber}
-use Rattle.plan_file.specs.declared.Read.{Read}
 use Rattle.plan_file.specs.declared.Read.the-variants.{Taken, Refused}
 use Rattle.plan_file.specs.declared.PlanRead.{PlanRead}
 
@@ -50,11 +49,12 @@ fileRows file =
     ∷ given length-wrong (lengthWrong file)
     ∷ []
 
+-- The first of refusals 20 to 22 that speaks against a file; 0 where they let it through.
 unfoldable pub fileNumber : List ℕ → ℕ
 fileNumber file = firstOf (fileRows file)
 
 -- The sending slot at a place: two bytes each from byte 21 on; 0 for places from N on.
-unfoldable pub slotAt : List ℕ → ℕ → ℕ
+unfoldable pub slotAt : List ℕ → (k : ℕ) → ℕ
 slotAt file k = cond (ltb k (nodesIn file)) (be16Of file (21 + 2 * k)) 0
 
 -- All 32 places.
@@ -91,8 +91,9 @@ noPlan =
       slots = replicate 32 (record { 0 = 0 });
     }
 
-abbrev pub refusedFile : ℕ → PlanRead
-refusedFile n = record { answer = Refused n; plan = noPlan }
+-- A refused file: the number, and no plan.
+abbrev pub refusedFile : (number : ℕ) → PlanRead
+refusedFile number = record { answer = Refused number; plan = noPlan }
 
 -- A file of the right shape: 1 to 9, then the plan.
 unfoldable pub takenOf : List ℕ → PlanRead

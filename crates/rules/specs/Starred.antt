@@ -6,7 +6,6 @@ use Rattle.plan.specs.declared.Plan.{Plan}
 use Rattle.plan.specs.Numbers.{planBy, slotsFrom}
 use Rattle.rules.specs.declared.Rule.{Rule}
 use Rattle.rules.specs.declared.Rule.the-variants.{One, Two, Three}
-use Rattle.rules.specs.declared.Sides.{Sides}
 use Rattle.rules.specs.declared.Outcome.{Outcome}
 use Rattle.rules.specs.declared.Outcome.the-variants.{Accepted, Fails}
 use Rattle.rules.specs.declared.Judged.the-variants.{Gives}

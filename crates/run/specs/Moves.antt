@@ -1,11 +1,10 @@
 -- What a delay, a tick and a send make of a node and of the run.
 use Prim.Native.Nat.{ℕ, _+_, _%_}
-use mathlib.Core.Bool.{Bool, true, false, cond, _&&_, _||_}
+use mathlib.Core.Bool.{Bool, false, cond, _&&_, _||_}
 use lib.ListN.{set}
 use lib.Dec.{eqb, ltb}
 use Rattle.laws.specs.Over.{over}
 use Rattle.plan.specs.declared.Plan.{Plan}
-use Rattle.plan.specs.declared.Time.{Time}
 use Rattle.plan.specs.Sending.{own}
 use Rattle.run.specs.declared.Mode.{Mode}
 use Rattle.run.specs.declared.Mode.the-variants.{Waiting, AboutToSend, Sending}
@@ -17,12 +16,12 @@ use Rattle.run.specs.declared.Step.the-variants.{Delay, TickOf, SendOf}
 use Rattle.run.specs.State.{node}
 
 -- A node after a delay of d.
-abbrev pub nodeDelayed : ℕ → NodeState → NodeState
+abbrev pub nodeDelayed : (d : ℕ) → NodeState → NodeState
 nodeDelayed d a =
     record { clock = a .clock; slot = a .slot; time = record { 0 = a .time .0 + d }; mode = a .mode; pending = a .pending }
 
 -- The clock after a tick on clock c0: g + 1 if a message was pending, otherwise one more, modulo k0.
-unfoldable pub clockAfter : Plan → Bool → ℕ → ℕ
+unfoldable pub clockAfter : Plan → (pending : Bool) → (c0 : ℕ) → ℕ
 clockAfter P pending c0 = cond pending (P .guard .0 + 1) ((c0 + 1) % P .ticks .0)
 
 -- In slot w with c0 = g − 1: the slot number s is w, and the tick on clock c0 is the guard's last.
@@ -43,7 +42,7 @@ slotAfter P c0 s AboutToSend = s
 slotAfter P c0 s Sending = s
 
 -- A node that sends in slot w after its tick: all decided on the clock before it, the pending mark cleared.
-abbrev pub nodeTicked : Plan → ℕ → NodeState → NodeState
+abbrev pub nodeTicked : Plan → (w : ℕ) → NodeState → NodeState
 nodeTicked P w a =
     record {
       clock = record { 0 = clockAfter P (a .pending) (a .clock .0) };
@@ -72,13 +71,14 @@ nodeHearing P a =
 abbrev pub nodeAtSend : Plan → (i k : ℕ) → NodeState → NodeState
 nodeAtSend P i k a = cond (eqb k i) (nodeSent a) (nodeHearing P a)
 
-abbrev pub delayed : Plan → ℕ → Run → Run
+-- The run after a delay of d, a tick of node i, a send of node i.
+abbrev pub delayed : Plan → (d : ℕ) → Run → Run
 delayed P d r = record { nodes = over (P .nodes .0) (λ k a. nodeDelayed d a) (r .nodes); last = r .last }
 
-abbrev pub ticked : Plan → ℕ → Run → Run
+abbrev pub ticked : Plan → (i : ℕ) → Run → Run
 ticked P i r = record { nodes = set (r .nodes) i (nodeTicked P (own P i) (node r i)); last = r .last }
 
-abbrev pub sent : Plan → ℕ → Run → Run
+abbrev pub sent : Plan → (i : ℕ) → Run → Run
 sent P i r = record { nodes = over (P .nodes .0) (nodeAtSend P i) (r .nodes); last = At (node r i .slot) }
 
 -- The run after a step.

@@ -1,9 +1,9 @@
 -- A node's reckoning of its ticks, and the real time that it is held against.
 use Prim.Native.Nat.{ℕ, _+_, _*_, _-_}
-use mathlib.Core.Bool.{Bool, true, false, cond, not, _&&_}
+use mathlib.Core.Bool.{Bool, false, cond, not, _&&_}
 use mathlib.Core.List.{List, [], _∷_}
 use lib.Dec.{eqb, leb, ltb}
-use Rattle.laws.specs.Row.{Row, given, firstOf}
+use Rattle.laws.specs.Row.{given, firstOf}
 use Rattle.laws.specs.Ring.{distance}
 use Rattle.plan.specs.declared.Plan.{Plan}
 use Rattle.plan.specs.Refusals.{run-outside, node-unknown, reckoning-below-0}
@@ -33,7 +33,7 @@ belowZero P Nothing a = false
 belowZero P (At p) a = eqb (a .slot .0) (p .0) && not (a .pending) && ltb (a .clock .0) (P .guard .0)
 
 -- The first refusal that speaks against a reckoning, where the plan passed 1 to 9.
-unfoldable pub reckoningNumber : Plan → Run → ℕ → ℕ
+unfoldable pub reckoningNumber : Plan → Run → (i : ℕ) → ℕ
 reckoningNumber P r i =
     firstOf
     (given run-outside (not (inRange P r))
@@ -42,16 +42,16 @@ reckoningNumber P r i =
     ∷ [])
 
 -- The reckoning of node i where the plan passed 1 to 9.
-unfoldable pub reckonedTested : Plan → Run → ℕ → Reckoned
+unfoldable pub reckonedTested : Plan → Run → (i : ℕ) → Reckoned
 reckonedTested P r i =
     cond (eqb (reckoningNumber P r i) 0) (Ticks (reckoning P (r .last) (node r i))) (Refused (reckoningNumber P r i))
 
 -- The reckoning of node i, of any plan on any run.
-unfoldable pub reckonedOf : Plan → Run → ℕ → Reckoned
+unfoldable pub reckonedOf : Plan → Run → (i : ℕ) → Reckoned
 reckonedOf P r i = cond (eqb (planNumber P) 0) (reckonedTested P r i) (Refused (planNumber P))
 
 -- The real time since the last message: the sum of the delays after the last send, or of all, with y before these steps.
-abbrev pub timeSince : ℕ → List Step → ℕ
+abbrev pub timeSince : (y : ℕ) → List Step → ℕ
 timeSince y [] = y
 timeSince y (Delay d ∷ steps) = timeSince (y + d .0) steps
 timeSince y (TickOf i ∷ steps) = timeSince y steps

@@ -1,7 +1,6 @@
 -- The state of a run: fresh, in range (refusal 10), out of step (refusal 11).
 use Prim.Native.Nat.{ℕ}
 use mathlib.Core.Bool.{Bool, true, false, cond, not, _&&_}
-use mathlib.Core.List.{List}
 use lib.ListN.{getD, replicate}
 use lib.Dec.{eqb, leb, ltb}
 use Rattle.laws.specs.Below.{anyBelow, allBelow, firstBelow}
@@ -56,7 +55,7 @@ unfoldable pub inRange : Plan → Run → Bool
 inRange P r = allBelow (P .nodes .0) (λ i. nodeInRange P (node r i)) && lastInRange P (r .last)
 
 -- Node j has another slot number than node i.
-abbrev pub elsewhere : Run → ℕ → ℕ → Bool
+abbrev pub elsewhere : Run → (i j : ℕ) → Bool
 elsewhere r i j = not (eqb (node r j .slot .0) (node r i .slot .0))
 
 -- Node i is sending and some node has another slot number.

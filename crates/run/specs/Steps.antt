@@ -12,7 +12,6 @@ use Rattle.plan.specs.Tested.{planNumber}
 use Rattle.run.specs.declared.Run.{Run}
 use Rattle.run.specs.declared.Step.{Step}
 use Rattle.run.specs.declared.Step.the-variants.{Delay, TickOf, SendOf}
-use Rattle.run.specs.declared.Answer.{Answer}
 use Rattle.run.specs.declared.Answer.the-variants.{Done, Refused}
 use Rattle.run.specs.declared.Stepped.{Stepped}
 use Rattle.run.specs.declared.Apart.{Apart}
@@ -20,16 +19,17 @@ use Rattle.run.specs.declared.Apart.the-variants as apart
 use Rattle.run.specs.State.{node, isAbout, inRange, outOfStep, apartTested}
 use Rattle.run.specs.Moves.{moved}
 
--- A step is a delay; a tick of node i.
+-- The step is a delay.
 abbrev pub isDelay : Step → Bool
 isDelay (Delay d) = true
 isDelay (TickOf i) = false
 isDelay (SendOf i) = false
 
-abbrev pub isTickOf : ℕ → Step → Bool
-isTickOf n (Delay d) = false
-isTickOf n (TickOf i) = eqb (i .0) n
-isTickOf n (SendOf i) = false
+-- The step is a tick of node i.
+abbrev pub isTickOf : (i : ℕ) → Step → Bool
+isTickOf i (Delay d) = false
+isTickOf i (TickOf k) = eqb (k .0) i
+isTickOf i (SendOf k) = false
 
 -- The rows that speak of the step itself.
 abbrev pub stepRows : Plan → Run → Step → List Row
@@ -48,8 +48,8 @@ stepNumber P r s =
     firstOf (given run-outside (not (inRange P r)) ∷ given out-of-step (outOfStep P r) ∷ stepRows P r s)
 
 -- A refused call: the number, and the run as it was.
-abbrev pub refusedWith : ℕ → Run → Stepped
-refusedWith n r = record { answer = Refused n; run = r }
+abbrev pub refusedWith : (number : ℕ) → Run → Stepped
+refusedWith number r = record { answer = Refused number; run = r }
 
 -- A step where the plan passed 1 to 9.
 unfoldable pub stepTested : Plan → Run → Step → Stepped

@@ -22,6 +22,10 @@ widestFrom P = leastBelow (P .frame .0) (P .nodes .0) (predecessorAt P (gapOf P)
 unfoldable pub widestNode : Plan → ℕ
 widestNode P = firstBelow (P .nodes .0) (λ i. eqb (predecessorAt P (gapOf P) i) (widestFrom P))
 
+-- s of rules 1 and 2.
+abbrev pub widestTo : Plan → ℕ
+widestTo P = own P (widestNode P)
+
 -- The node that sends in slot s.
 abbrev pub senderIn : Plan → ℕ → ℕ
 senderIn P s = firstBelow (P .nodes .0) (λ i. eqb (own P i) s)
@@ -39,5 +43,5 @@ unfoldable pub partsFor : Plan → Rule → Parts
 partsFor P One = partsWith P (widestFrom P) (widestNode P)
 partsFor P Two =
     partsWith P (widestFrom P)
-    (firstBelow (P .nodes .0) (λ i. silentIn P (widestFrom P) i && silentIn P (own P (widestNode P)) i))
+    (firstBelow (P .nodes .0) (λ i. silentIn P (widestFrom P) i && silentIn P (widestTo P) i))
 partsFor P Three = partsWith P 0 (firstBelow (P .nodes .0) (silentIn P 0))

@@ -28,11 +28,12 @@ spelled line (suc n) = spelled line n * 10 + (byteOf line (2 + n) - 48)
 abbrev pub digitCount : List ℕ → ℕ
 digitCount line = length line - 3
 
--- The line has the shape of a step line: a letter D, T or S, one blank, a number, a newline at the end.
--- The number: digits alone, at least one, and no 0 in front of others.
+-- One of the letters D, T and S.
 unfoldable pub isLetter : ℕ → Bool
 isLetter b = eqb b 68 || eqb b 84 || eqb b 83
 
+-- The line has the shape of a step line: a letter, one blank, a number, a newline at the end.
+-- The number: digits alone, at least one, and no 0 in front of others.
 unfoldable pub lineShaped : List ℕ → Bool
 lineShaped line =
     leb 4 (length line)
@@ -42,7 +43,7 @@ lineShaped line =
     && allBelow (digitCount line) (λ k. isDigit (byteOf line (2 + k)))
     && (eqb (digitCount line) 1 || not (eqb (byteOf line 2) 48))
 
--- The step that a letter and a number ask for.
+-- The step that a letter and a number ask for: D a delay, T a tick, S a send; what is no letter counts as S.
 abbrev pub stepBy : (letter n : ℕ) → Step
 stepBy letter n = cond (eqb letter 68) (Delay (record { 0 = n })) (cond (eqb letter 84) (TickOf (record { 0 = n })) (SendOf (record { 0 = n })))
 

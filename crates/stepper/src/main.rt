@@ -12,7 +12,7 @@ use step_lines::Line;
 use step_lines::Reading;
 ghost use mathlib.Core.Path.{_≡_};
 ghost use mathlib.Core.Bool.{true};
-ghost use Prim.Native.Nat.{_<_, _≤_};
+ghost use Prim.Native.Nat.{_<_};
 ghost use lib.ListN.{length};
 ghost use Rattle.plan.specs.Tested.{Sound};
 ghost use Rattle.run.specs.State.{inRange};

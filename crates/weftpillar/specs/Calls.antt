@@ -20,7 +20,7 @@ use Rattle.weftpillar.specs.Answers.{another-length, answerNumber, recko
 use Rattle.weftpillar.specs.Forms.{verdictBytes, apartBytes, ticksBytes, lineBytes, nextBytes, placeIn, placeBytes, placeWrong}
 use Rattle.weftpillar.specs.Many.{afterAsked, answersBytes}
 
--- The run and the place in bytes, and these put into bytes, for the nodes of a plan.
+-- For the nodes of a plan: the run in bytes, a run put into bytes, and that bytes spell no run.
 abbrev pub runFor : Plan → List ℕ → Run
 runFor P bytes = runIn (P .nodes .0) bytes
 

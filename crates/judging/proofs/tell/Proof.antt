@@ -14,16 +14,8 @@ read-plan-requires c κs = search needs
 enum-told : tie.Need-enum-told
 enum-told c = search needs
 
-slice-aggregate-judged : tie.Need-slice-aggregate-judged
-slice-aggregate-judged c = search needs
-
-judged-requires : tie.Need-judged-requires
-judged-requires c κs =
-    let r = c .before .before .before .before in
-    rw (r .read-plan .ensures) (taken-passes _ (ap (λ (x : PlanRead). x .answer) (sym (r .read-plan .ensures)) ∙ c .before .enum-told .given .1))
-
-enum-known-answer : tie.Need-enum-known-answer
-enum-known-answer c = search needs
+enum-told-2 : tie.Need-enum-told-2
+enum-told-2 c = search needs
 
 slice-aggregate-refused : tie.Need-slice-aggregate-refused
 slice-aggregate-refused c = search needs
@@ -33,6 +25,14 @@ refused-requires c κs = search needs
 
 returns : tie.Need-returns
 returns c = search needs
+
+slice-aggregate-judged : tie.Need-slice-aggregate-judged
+slice-aggregate-judged c = search needs
+
+judged-requires : tie.Need-judged-requires
+judged-requires c κs =
+    let r = c .before .before .before .before in
+    rw (r .read-plan .ensures) (taken-passes _ (ap (λ (x : PlanRead). x .answer) (sym (r .read-plan .ensures)) ∙ c .before .enum-told .given .1))
 
 returns-2 : tie.Need-returns-2
 returns-2 c = search needs
@@ -44,10 +44,10 @@ tell-spec =
     large-buffer-requires
     read-plan-requires
     enum-told
-    slice-aggregate-judged
-    judged-requires
-    enum-known-answer
+    enum-told-2
     slice-aggregate-refused
     refused-requires
     returns
+    slice-aggregate-judged
+    judged-requires
     returns-2)
