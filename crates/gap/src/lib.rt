@@ -2,7 +2,7 @@
 use plan::Plan;
 use plan::Slot;
 ghost use mathlib.Core.Path.{_≡_};
-ghost use Prim.Native.Nat.{ℕ, _+_, _≤_, _<_, min, max};
+ghost use Prim.Native.Nat.{_≤_, _<_, min, max};
 ghost use lib.ListN.{length};
 ghost use Rattle.laws.specs.Ring.{distance};
 ghost use Rattle.plan.specs.Tested.{planNumber, Sound};
@@ -101,7 +101,7 @@ fn node_distance(plan: Plan, table: &[u8], slot: Slot) -> NodeDistance
     }
 }
 
-// Every node's predecessor and gap, for a tested plan: one walk round the frame over the table of occupied slots.
+// Every node's predecessor and D, for a tested plan: one walk round the frame over the table of occupied slots.
 pub fn distances_tested(plan: Plan) -> Distances
     requires { ⌜ planNumber plan ≡ 0 ⌝ }
     ensures { λ r. ⌜ r ≡ distancesOf plan ⌝ }

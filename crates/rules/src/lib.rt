@@ -7,7 +7,7 @@ ghost use Prim.Native.Nat.{_*_, _≤_, _<_};
 ghost use Rattle.plan.specs.Tested.{planNumber, Sound};
 ghost use Rattle.gap.specs.Gap.{gapOf};
 ghost use Rattle.rules.specs.declared.Rule.the-variants.{One, Two, Three};
-ghost use Rattle.rules.specs.Rules.{ruleNumber, sidesAt, holds, outcomeBy, verdictOf, judgedOf};
+ghost use Rattle.rules.specs.Rules.{ruleNumber, sidesAt, outcomeBy, verdictOf, judgedOf};
 
 pub enum Rule {
     One,

@@ -2,7 +2,7 @@
 use Prim.Native.Nat.{ℕ, _≤_, _<_}
 use mathlib.Core.Path.{_≡_, refl, sym, ap, _∙_}
 use mathlib.Core.Logic.{_≢_}
-use mathlib.Core.Bool.{Bool, true, false, cond, not, _&&_}
+use mathlib.Core.Bool.{Bool, true, false, cond, not, _&&_, and-false}
 use native.Mathlib.Omega.{arith}
 use borrow.Author.Tests.{eqb-true, eq-eqb, ne-eqb}
 use lib.Dec.{eqb}
@@ -71,12 +71,8 @@ module _ (P : Plan) (r : Run) where
       nobody : (k : ℕ) → k < P .nodes .0 → anyBelow (P .nodes .0) (elsewhere r k) ≡ false
       nobody k l = any-never (P .nodes .0) (elsewhere r k) (λ j m. ap not (eq-eqb (node r j .slot .0) (node r k .slot .0) (slot j m ∙ sym (slot k l))))
 
-      never : (b : Bool) → (b && false) ≡ false
-      never true = refl
-      never false = refl
-
       alone : (k : ℕ) → k < P .nodes .0 → sendsApart P r k ≡ false
-      alone k l = rw (nobody k l) (never (sending k))
+      alone k l = rw (nobody k l) (and-false (sending k))
 
   -- i is the lowest sending node, j the lowest node elsewhere
   pub out-lowest :

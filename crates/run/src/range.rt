@@ -1,7 +1,6 @@
 // Refusal 10: whether every number of a run lies in its range.
 ghost use mathlib.Core.Path.{_≡_};
 ghost use mathlib.Core.Bool.{true};
-ghost use Prim.Native.Nat.{_≤_, _<_};
 ghost use Rattle.plan.specs.Tested.{Sound};
 ghost use Rattle.run.specs.State.{nodeInRange, lastInRange, inRange};
 use crate::Last;

@@ -110,9 +110,7 @@ module _ (P : Plan) (o : Sound P) (c : Parts) (R : Roles P c) (F : Failure P c) 
 
     stays-after : (s : Step) → markAfter P c r After s ≡ After
     unfolding markAfter
-    stays-after (Delay d) = refl
-    stays-after (TickOf i) = refl
-    stays-after (SendOf i) = refl
+    stays-after s = refl
 
     since-keeps : Since P c F r n → (s : Step) → Move P c (later r) s → Then After r n s
     since-keeps S s h = rw (stays-after s) (go (later-keeps o R room F (S .state) s h))

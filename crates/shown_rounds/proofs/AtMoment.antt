@@ -2,7 +2,7 @@
 use Prim.Native.Nat.{ℕ, zero, suc, _+_, _-_, _%_, _≤_, _<_, min}
 use mathlib.Core.Path.{_≡_, refl, sym, ap, _∙_}
 use mathlib.Core.Logic.{_≢_}
-use mathlib.Core.Bool.{Bool, true, false, cond, not, _&&_}
+use mathlib.Core.Bool.{Bool, true, false, cond, not, _&&_, and-false}
 use mathlib.Core.List.{[], _∷_, _++_}
 use native.Mathlib.Nat.{mod-lt, mod-eq-of-lt, mod-self, mod-add-mod}
 use native.Mathlib.Decide.{ℕ-discrete}
@@ -199,12 +199,8 @@ module _ {P : Plan} {c : Parts} (o : Sound P) (R : Roles P c) (plain : planNumbe
     others-act : (now : Run) → Moment P c y r dueOthers now → Goes P (later now) (cond (eqb (y % P .max .0) 0) (inOrder P (λ i. not (eqb i f)) (acts P r)) []) After (Calm P c y)
     others-act now s = go (eqb (y % P .max .0) 0) refl
       where
-        never : (b : Bool) → (b && false) ≡ false
-        never true = refl
-        never false = refl
-
         done : (k : ℕ) → k < P .nodes .0 → dueFrom (P .nodes .0) k ≡ false
-        done k l = rw (lt-leb (P .nodes .0) k l) (never (not (eqb k f)))
+        done k l = rw (lt-leb (P .nodes .0) k l) (and-false (not (eqb k f)))
 
         all : eqb (y % P .max .0) 0 ≡ true → (k : ℕ) → Dec (k ≡ f) → dueFrom 0 k ≡ dueOthers k
         all e k (yes q) = rw (q, eq-eqb f f refl)

@@ -2,7 +2,7 @@
 use Prim.Native.Nat.{ℕ, suc, _+_, _<_}
 use mathlib.Core.Path.{_≡_, refl, sym, ap, _∙_}
 use mathlib.Core.Logic.{_≢_}
-use mathlib.Core.Bool.{Bool, true, false, not, _&&_, _||_}
+use mathlib.Core.Bool.{Bool, true, false, not, _&&_, _||_, or-true}
 use mathlib.Core.List.{[], _∷_}
 use native.Mathlib.Decide.{ℕ-discrete}
 use native.Mathlib.Omega.{arith}
@@ -168,11 +168,7 @@ module _ {P : Plan} {c : Parts} (o : Sound P) (R : Roles P c) (plain : planNumbe
         record { to = z .to; plays = z .plays; holds = due-same (dueFirst P r (P .nodes .0)) (turns P r) (z .to) (λ k l. at-last k l (turns P r k) refl) (z .holds) }
       where
         at-first : (k : ℕ) → dueFirst P r 0 k ≡ true
-        at-first k = rw (le-leb 0 k (omega arith)) (always (turns P r k))
-          where
-            always : (b : Bool) → (b || true) ≡ true
-            always true = refl
-            always false = refl
+        at-first k = rw (le-leb 0 k (omega arith)) (or-true (turns P r k))
 
         at-last : (k : ℕ) → k < P .nodes .0 → (b : Bool) → turns P r k ≡ b → turns P r k ≡ dueFirst P r (P .nodes .0) k
         at-last k l true e = rw e

@@ -2,7 +2,7 @@
 use Prim.Native.Nat.{ℕ, suc, _+_, _*_, _<_}
 use mathlib.Core.Path.{_≡_, refl, sym, ap, _∙_}
 use mathlib.Core.Logic.{_≢_}
-use mathlib.Core.Bool.{Bool, true, false, cond, not, _||_}
+use mathlib.Core.Bool.{Bool, true, false, cond, not, _||_, or-true}
 use mathlib.Core.List.{[], _∷_}
 use native.Mathlib.Decide.{ℕ-discrete}
 use native.Mathlib.Omega.{arith}
@@ -152,11 +152,7 @@ module _ {P : Plan} {c : Parts} (o : Sound P) (R : Roles P c) (plain : planNumbe
       record { to = z .to; plays = z .plays; holds = due-same (dueFrom c (P .nodes .0)) (λ k. not (neither c k)) (z .to) (λ k l. at-last k l (neither c k) refl) (z .holds) }
     where
       at-first : (k : ℕ) → dueFrom c 0 k ≡ true
-      at-first k = rw (le-leb 0 k (omega arith)) (always (not (neither c k)))
-        where
-          always : (b : Bool) → (b || true) ≡ true
-          always true = refl
-          always false = refl
+      at-first k = rw (le-leb 0 k (omega arith)) (or-true (not (neither c k)))
 
       at-last : (k : ℕ) → k < P .nodes .0 → (b : Bool) → neither c k ≡ b → not (neither c k) ≡ dueFrom c (P .nodes .0) k
       at-last k l true e = rw (e, lt-leb (P .nodes .0) k l)

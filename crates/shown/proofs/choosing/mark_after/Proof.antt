@@ -11,12 +11,6 @@ use borrow.Author.Needs.{needs}
 use Rattle.shown.proofs.choosing.mark_after.Statement.{statement}
 use Rattle.shown.proofs.choosing.mark_after.Tie as tie
 
-after-stays : (P : Plan) (parts : Parts) (r : Run) (s : Step) → After ≡ markAfter P parts r After s
-unfolding markAfter
-after-stays P parts r (Delay d) = refl
-after-stays P parts r (TickOf i) = refl
-after-stays P parts r (SendOf i) = refl
-
 enum-told : tie.Need-enum-told
 enum-told c = search needs
 
@@ -75,7 +69,8 @@ unfolding markAfter
 returns-6 c = rw (c .before .before .enum-told5 .given .1, c .enum-told7 .given .1)
 
 returns-7 : tie.Need-returns-7
-returns-7 c = let a = c .before .before .args in rw (c .enum-told8 .given .1) (after-stays (a .plan) (a .parts) (a .run) (a .step))
+unfolding markAfter
+returns-7 c = rw (c .enum-told8 .given .1)
 
 pub mark-after-spec : {M : Type 1} → statement M
 mark-after-spec =
