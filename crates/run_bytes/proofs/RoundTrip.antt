@@ -1,8 +1,8 @@
 -- Reading what was written gives the same run, and writing what was read gives the same bytes.
-use Prim.Native.Nat.{ℕ, zero, suc, _+_, _*_, _/_, _%_, _≤_, _<_}
+use Prim.Native.Nat.{ℕ, zero, suc, _+_, _*_, _≤_, _<_}
 use mathlib.Core.Path.{_≡_, refl, sym, ap, _∙_}
 use mathlib.Core.Bool.{Bool, true, false, not}
-use mathlib.Core.List.{List, [], _∷_}
+use mathlib.Core.List.{List}
 use native.Mathlib.Omega.{arith}
 use native.Mathlib.Decide.{ℕ-discrete}
 use lib.ListN.{length, getD, replicate, length-replicate}
@@ -22,7 +22,7 @@ use Rattle.laws.specs.Below.{anyBelow}
 use Rattle.laws.proofs.Belows.{any-not}
 use Rattle.laws.proofs.Overs.{getD-over}
 use Rattle.run_bytes.specs.RunBytes.{modeByte, modeIn, flagByte, nodeBytes, lastBytes, nodeIn, lastIn, runIn, nodesBytes, runBytes, nodeWrong, numbersWrong}
-use Rattle.run_bytes.proofs.Sets.{getD-sets-before, getD-sets-after, getD-sets-in, Stands, sets-same}
+use Rattle.run_bytes.proofs.Sets.{getD-sets-before, getD-sets-in, sets-same}
 
 -- The numbers of a node fit their types.
 pub record NodeFits (a : NodeState) : Type 0 where
