@@ -2,8 +2,8 @@
 use Prim.Native.Nat.{ℕ}
 use mathlib.Core.Path.{_≡_, refl, sym}
 use mathlib.Core.List.{List}
+use Rattle.byte_calls.proofs.Answering.{refused-leaves}
 use Rattle.weftpillar.specs.Calls.{judgeAnswer, judgeLeaves, freshAnswer, freshLeaves, freshPlaceAnswer, freshPlaceLeaves, stepAnswer, stepLeaves, stepsAnswer, stepsLeavesRun, stepsLeavesAnswers, apartAnswer, apartLeaves, reckonAnswer, reckonLeaves, nextAnswer, nextLeavesPlace, nextLeavesStep, lineAnswer, lineLeaves}
-use Rattle.weftpillar.proofs.Calling.{refused-leaves}
 
 pub judge-unchanged : (file verdict : List ℕ) → (judgeAnswer file verdict ≡ 0 → ⊥) → judgeLeaves file verdict ≡ verdict
 unfolding judgeLeaves

@@ -8,9 +8,9 @@ use Rattle.laws.proofs.Rows.{first-here, first-next}
 use Rattle.laws.specs.Row.{given}
 use Rattle.run.specs.declared.Run.{Run}
 use Rattle.run_bytes.specs.RunBytes.{runBytes}
+use Rattle.byte_calls.proofs.Answering.{none-given, refused-leaves, done-leaves}
 use Rattle.weftpillar.specs.Answers.{another-length}
 use Rattle.weftpillar.specs.Calls.{freshAnswer, freshLeaves}
-use Rattle.weftpillar.proofs.Calling.{none-given, refused-leaves, done-leaves}
 use Rattle.weftpillar.proofs.weftpillar_fresh.Statement.{statement}
 use Rattle.weftpillar.proofs.weftpillar_fresh.Tie as tie
 

@@ -7,10 +7,10 @@ use denote.Ref.{now}
 use Rattle.laws.proofs.Rows.{first-here, first-next}
 use Rattle.laws.specs.Row.{given}
 use Rattle.shown.specs.declared.Place.{Place}
+use Rattle.answer_bytes.specs.Places.{placeBytes}
+use Rattle.byte_calls.proofs.Answering.{none-given, refused-leaves, done-leaves}
 use Rattle.weftpillar.specs.Answers.{another-length}
 use Rattle.weftpillar.specs.Calls.{freshPlaceAnswer, freshPlaceLeaves}
-use Rattle.weftpillar.specs.Forms.{placeBytes}
-use Rattle.weftpillar.proofs.Calling.{none-given, refused-leaves, done-leaves}
 use Rattle.weftpillar.proofs.weftpillar_fresh_place.Statement.{statement}
 use Rattle.weftpillar.proofs.weftpillar_fresh_place.Tie as tie
 

@@ -6,9 +6,10 @@ use borrow.Author.Needs.{needs}
 use borrow.Author.Tests.{eq-eqb, ne-eqb}
 use denote.Ref.{now}
 use Rattle.rules.specs.Rules.{verdictOf}
+use Rattle.answer_bytes.specs.Forms.{verdictBytes}
+use Rattle.byte_calls.proofs.Answering.{none-given, refused-leaves, done-leaves}
 use Rattle.weftpillar.specs.Calls.{judgeAnswer, judgeLeaves}
-use Rattle.weftpillar.specs.Forms.{verdictBytes}
-use Rattle.weftpillar.proofs.Calling.{by-length, by-file, by-rows, none-given, refused-leaves, done-leaves}
+use Rattle.weftpillar.proofs.Calling.{by-length, by-file, by-rows}
 use Rattle.weftpillar.proofs.weftpillar_judge.Statement.{statement}
 use Rattle.weftpillar.proofs.weftpillar_judge.Tie as tie
 
@@ -46,7 +47,7 @@ returns-3 c =
     let a = c .before .before .before .before .before .before .before .before .before .before .before .args in
     let t = c .before .before .before .before .before .before .before .taken-from in
     let e : 0 ≡ judgeAnswer (now (a .plan)) (now (a .verdict)) =
-    sym none-given ∙ by-rows _ _ (λ P. []) (ap not (eq-eqb _ 51 (c .before .before .before .before .before .before .before .before .if1 .left))) (sym (t .ensures .0) ∙ c .before .before .before .before .before .if2 .left) in
+    sym none-given ∙ by-rows _ _ (λ P. []) (ap not (eq-eqb _ 51 (c .before .before .before .before .before .before .before .before .if1 .left))) _ (t .ensures .0) (c .before .before .before .before .before .if2 .left) _ (t .ensures .1) in
     (e, done-leaves _ _ _ _ e (c .before .before .write-verdict .ensures ∙ ap verdictBytes (c .before .before .before .verdict-by .ensures ∙ ap verdictOf (t .ensures .1))))
 
 pub weftpillar-judge-spec : {M : Type 1} → statement M

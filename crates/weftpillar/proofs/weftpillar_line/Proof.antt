@@ -9,10 +9,13 @@ use Rattle.laws.proofs.Rows.{first-here, first-next}
 use Rattle.laws.specs.Row.{given}
 use Rattle.step_lines.specs.StepLine.{lineOf}
 use Rattle.step_lines.specs.declared.Line.{Line}
-use Rattle.weftpillar.specs.Answers.{leaves, lineNumber, another-length}
+use Rattle.answer_bytes.specs.Answers.{lineNumber}
+use Rattle.answer_bytes.specs.Forms.{lineBytes}
+use Rattle.byte_calls.specs.TestsAndWrites.{leaves}
+use Rattle.byte_calls.proofs.Answering.{refused-last, refused-leaves}
+use Rattle.weftpillar.specs.Answers.{another-length}
 use Rattle.weftpillar.specs.Calls.{lineAnswer, lineLeaves}
-use Rattle.weftpillar.specs.Forms.{lineBytes}
-use Rattle.weftpillar.proofs.Calling.{refused-last, refused-leaves, line-leaves}
+use Rattle.weftpillar.proofs.Calling.{line-leaves}
 use Rattle.weftpillar.proofs.weftpillar_line.Statement.{statement}
 use Rattle.weftpillar.proofs.weftpillar_line.Tie as tie
 

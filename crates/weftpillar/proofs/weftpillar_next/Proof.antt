@@ -1,13 +1,12 @@
-use Prim.Native.Nat.{ℕ}
-use mathlib.Core.Path.{_≡_, sym, ap, _∙_}
+use mathlib.Core.Path.{_≡_, sym, _∙_}
 use native.Mathlib.Omega.{arith}
 use borrow.Author.Needs.{needs}
 use denote.Ref.{now}
-use Rattle.laws.specs.Row.{firstOf}
-use Rattle.plan.specs.declared.Plan.{Plan}
-use Rattle.weftpillar.specs.Answers.{planIn, leaves}
-use Rattle.weftpillar.specs.Calls.{nextTests, nextPlaceWrites, nextStepWrites, nextAnswer, nextLeavesPlace, nextLeavesStep}
-use Rattle.weftpillar.proofs.Calling.{by-length, by-file, by-rows, refused-leaves, lengths-right}
+use Rattle.byte_calls.specs.TestsAndWrites.{nextTests, nextPlaceWrites, nextStepWrites}
+use Rattle.byte_calls.proofs.Answering.{refused-leaves}
+use Rattle.byte_calls.proofs.TwoLengths.{lengths-right}
+use Rattle.weftpillar.specs.Calls.{nextAnswer, nextLeavesPlace, nextLeavesStep}
+use Rattle.weftpillar.proofs.Calling.{by-length, by-file, by-rows, by-plan}
 use Rattle.weftpillar.proofs.weftpillar_next.Statement.{statement}
 use Rattle.weftpillar.proofs.weftpillar_next.Tie as tie
 
@@ -49,15 +48,12 @@ returns-3 c =
     let d = c .before .before .before .before .next-on in
     let place = now (a .place) in
     let step = now (a .step) in
-    let P′ = planIn (now (a .plan)) in
     let e : d .result ≡ nextAnswer (now (a .plan)) (now (a .place)) (now (a .step)) =
-    d .ensures .0
-    ∙ ap (λ (P : Plan). firstOf (nextTests P place)) (t .ensures .1)
-    ∙ by-rows _ _ (λ P. nextTests P place) (sym (c .before .before .before .before .before .before .before .before .before .before .before .lengths-differ .ensures) ∙ c .before .before .before .before .before .before .before .before .before .before .if1 .left) (sym (t .ensures .0) ∙ c .before .before .before .before .before .before .before .if2 .left) in (
+    d .ensures .0 ∙ by-rows _ _ (λ P. nextTests P place) (sym (c .before .before .before .before .before .before .before .before .before .before .before .lengths-differ .ensures) ∙ c .before .before .before .before .before .before .before .before .before .before .if1 .left) _ (t .ensures .0) (c .before .before .before .before .before .before .before .if2 .left) _ (t .ensures .1) in (
       e,
       (
-        d .ensures .1 .0 ∙ ap (λ (P : Plan). leaves (d .result) (nextPlaceWrites P place) place) (t .ensures .1) ∙ ap (λ (n : ℕ). leaves n (nextPlaceWrites P′ place) place) e,
-        d .ensures .1 .1 ∙ ap (λ (P : Plan). leaves (d .result) (nextStepWrites P place step) step) (t .ensures .1) ∙ ap (λ (n : ℕ). leaves n (nextStepWrites P′ place step) step) e,
+        by-plan (λ P. nextPlaceWrites P place) _ _ _ _ _ _ (d .ensures .1 .0) (t .ensures .1) e,
+        by-plan (λ P. nextStepWrites P place step) _ _ _ _ _ _ (d .ensures .1 .1) (t .ensures .1) e,
       ),
     )
 

@@ -1,15 +1,12 @@
-use Prim.Native.Nat.{ℕ}
-use mathlib.Core.Path.{_≡_, sym, ap, _∙_}
+use mathlib.Core.Path.{_≡_, sym, _∙_}
 use native.Mathlib.Omega.{arith}
 use borrow.Author.Needs.{needs}
 use denote.Ref.{now}
-use Rattle.laws.specs.Row.{firstOf}
-use Rattle.plan.specs.declared.Plan.{Plan}
-use Rattle.run.specs.State.{apartTested}
-use Rattle.weftpillar.specs.Answers.{planIn, leaves}
-use Rattle.weftpillar.specs.Calls.{apartAnswer, apartLeaves, runTests, runFor}
-use Rattle.weftpillar.specs.Forms.{apartBytes}
-use Rattle.weftpillar.proofs.Calling.{by-length, by-file, by-rows, refused-leaves, lengths-right}
+use Rattle.byte_calls.specs.TestsAndWrites.{runTests, apartWrites}
+use Rattle.byte_calls.proofs.Answering.{refused-leaves}
+use Rattle.byte_calls.proofs.TwoLengths.{lengths-right}
+use Rattle.weftpillar.specs.Calls.{apartAnswer, apartLeaves}
+use Rattle.weftpillar.proofs.Calling.{by-length, by-file, by-rows, by-plan}
 use Rattle.weftpillar.proofs.weftpillar_out_of_step.Statement.{statement}
 use Rattle.weftpillar.proofs.weftpillar_out_of_step.Tie as tie
 
@@ -48,10 +45,8 @@ returns-3 c =
     let t = c .before .before .before .before .before .before .taken-from in
     let d = c .before .before .apart-on in
     let e : d .result ≡ apartAnswer (now (a .plan)) (now (a .run)) (now (a .answer)) =
-    d .ensures .0
-    ∙ ap (λ (P : Plan). firstOf (runTests P (now (a .run)))) (t .ensures .1)
-    ∙ by-rows _ _ (λ P. runTests P (now (a .run))) (sym (c .before .before .before .before .before .before .before .before .lengths-differ .ensures) ∙ c .before .before .before .before .before .before .before .if1 .left) (sym (t .ensures .0) ∙ c .before .before .before .before .if2 .left) in
-    (e, d .ensures .1 ∙ ap (λ (P : Plan). leaves (d .result) (apartBytes (apartTested P (runFor P (now (a .run)))) (now (a .answer))) (now (a .answer))) (t .ensures .1) ∙ ap (λ (n : ℕ). leaves n (apartBytes (apartTested (planIn (now (a .plan))) (runFor (planIn (now (a .plan))) (now (a .run)))) (now (a .answer))) (now (a .answer))) e)
+    d .ensures .0 ∙ by-rows _ _ (λ P. runTests P (now (a .run))) (sym (c .before .before .before .before .before .before .before .before .lengths-differ .ensures) ∙ c .before .before .before .before .before .before .before .if1 .left) _ (t .ensures .0) (c .before .before .before .before .if2 .left) _ (t .ensures .1) in
+    (e, by-plan (λ P. apartWrites P (now (a .run)) (now (a .answer))) _ _ _ _ _ _ (d .ensures .1) (t .ensures .1) e)
 
 pub weftpillar-out-of-step-spec : {M : Type 1} → statement M
 weftpillar-out-of-step-spec =

@@ -1,13 +1,12 @@
-use Prim.Native.Nat.{ℕ}
-use mathlib.Core.Path.{_≡_, sym, ap, _∙_}
+use mathlib.Core.Path.{_≡_, sym, _∙_}
 use native.Mathlib.Omega.{arith}
 use borrow.Author.Needs.{needs}
 use denote.Ref.{now}
-use Rattle.laws.specs.Row.{firstOf}
-use Rattle.plan.specs.declared.Plan.{Plan}
-use Rattle.weftpillar.specs.Answers.{planIn, leaves}
-use Rattle.weftpillar.specs.Calls.{reckonAnswer, reckonLeaves, reckonTests, reckonWrites}
-use Rattle.weftpillar.proofs.Calling.{by-length, by-file, by-rows, refused-leaves, lengths-right}
+use Rattle.byte_calls.specs.TestsAndWrites.{reckonTests, reckonWrites}
+use Rattle.byte_calls.proofs.Answering.{refused-leaves}
+use Rattle.byte_calls.proofs.TwoLengths.{lengths-right}
+use Rattle.weftpillar.specs.Calls.{reckonAnswer, reckonLeaves}
+use Rattle.weftpillar.proofs.Calling.{by-length, by-file, by-rows, by-plan}
 use Rattle.weftpillar.proofs.weftpillar_reckon.Statement.{statement}
 use Rattle.weftpillar.proofs.weftpillar_reckon.Tie as tie
 
@@ -46,10 +45,8 @@ returns-3 c =
     let t = c .before .before .before .before .before .before .taken-from in
     let d = c .before .before .reckon-on in
     let e : d .result ≡ reckonAnswer (now (a .plan)) (now (a .run)) (a .node) (now (a .ticks)) =
-    d .ensures .0
-    ∙ ap (λ (P : Plan). firstOf (reckonTests P (now (a .run)) (a .node))) (t .ensures .1)
-    ∙ by-rows _ _ (λ P. reckonTests P (now (a .run)) (a .node)) (sym (c .before .before .before .before .before .before .before .before .lengths-differ .ensures) ∙ c .before .before .before .before .before .before .before .if1 .left) (sym (t .ensures .0) ∙ c .before .before .before .before .if2 .left) in
-    (e, d .ensures .1 ∙ ap (λ (P : Plan). leaves (d .result) (reckonWrites P (now (a .run)) (a .node) (now (a .ticks))) (now (a .ticks))) (t .ensures .1) ∙ ap (λ (n : ℕ). leaves n (reckonWrites (planIn (now (a .plan))) (now (a .run)) (a .node) (now (a .ticks))) (now (a .ticks))) e)
+    d .ensures .0 ∙ by-rows _ _ (λ P. reckonTests P (now (a .run)) (a .node)) (sym (c .before .before .before .before .before .before .before .before .lengths-differ .ensures) ∙ c .before .before .before .before .before .before .before .if1 .left) _ (t .ensures .0) (c .before .before .before .before .if2 .left) _ (t .ensures .1) in
+    (e, by-plan (λ P. reckonWrites P (now (a .run)) (a .node) (now (a .ticks))) _ _ _ _ _ _ (d .ensures .1) (t .ensures .1) e)
 
 pub weftpillar-reckon-spec : {M : Type 1} → statement M
 weftpillar-reckon-spec =

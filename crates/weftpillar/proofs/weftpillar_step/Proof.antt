@@ -1,15 +1,13 @@
-use Prim.Native.Nat.{ℕ}
 use mathlib.Core.Bool.{not}
-use mathlib.Core.Path.{_≡_, sym, ap, _∙_}
+use mathlib.Core.Path.{_≡_, ap, _∙_}
 use native.Mathlib.Omega.{arith}
 use borrow.Author.Needs.{needs}
 use borrow.Author.Tests.{eq-eqb, ne-eqb}
 use denote.Ref.{now}
-use Rattle.laws.specs.Row.{firstOf}
-use Rattle.plan.specs.declared.Plan.{Plan}
-use Rattle.weftpillar.specs.Answers.{planIn, leaves}
-use Rattle.weftpillar.specs.Calls.{stepAnswer, stepLeaves, stepTests, stepWrites}
-use Rattle.weftpillar.proofs.Calling.{by-length, by-file, by-rows, refused-leaves}
+use Rattle.byte_calls.specs.TestsAndWrites.{stepTests, stepWrites}
+use Rattle.byte_calls.proofs.Answering.{refused-leaves}
+use Rattle.weftpillar.specs.Calls.{stepAnswer, stepLeaves}
+use Rattle.weftpillar.proofs.Calling.{by-length, by-file, by-rows, by-plan}
 use Rattle.weftpillar.proofs.weftpillar_step.Statement.{statement}
 use Rattle.weftpillar.proofs.weftpillar_step.Tie as tie
 
@@ -45,10 +43,8 @@ returns-3 c =
     let t = c .before .before .before .before .before .before .taken-from in
     let d = c .before .before .step-on in
     let e : d .result ≡ stepAnswer (now (a .plan)) (now (a .run)) (a .letter) (a .number) =
-    d .ensures .0
-    ∙ ap (λ (P : Plan). firstOf (stepTests P (now (a .run)) (a .letter) (a .number))) (t .ensures .1)
-    ∙ by-rows _ _ (λ P. stepTests P (now (a .run)) (a .letter) (a .number)) (ap not (eq-eqb _ 291 (c .before .before .before .before .before .before .before .if1 .left))) (sym (t .ensures .0) ∙ c .before .before .before .before .if2 .left) in
-    (e, d .ensures .1 ∙ ap (λ (P : Plan). leaves (d .result) (stepWrites P (now (a .run)) (a .letter) (a .number)) (now (a .run))) (t .ensures .1) ∙ ap (λ (n : ℕ). leaves n (stepWrites (planIn (now (a .plan))) (now (a .run)) (a .letter) (a .number)) (now (a .run))) e)
+    d .ensures .0 ∙ by-rows _ _ (λ P. stepTests P (now (a .run)) (a .letter) (a .number)) (ap not (eq-eqb _ 291 (c .before .before .before .before .before .before .before .if1 .left))) _ (t .ensures .0) (c .before .before .before .before .if2 .left) _ (t .ensures .1) in
+    (e, by-plan (λ P. stepWrites P (now (a .run)) (a .letter) (a .number)) _ _ _ _ _ _ (d .ensures .1) (t .ensures .1) e)
 
 pub weftpillar-step-spec : {M : Type 1} → statement M
 weftpillar-step-spec =

@@ -1,4 +1,4 @@
-use Prim.Native.Nat.{ℕ, _*_}
+use Prim.Native.Nat.{_*_}
 use mathlib.Core.Bool.{not}
 use mathlib.Core.Path.{_≡_, sym, ap, _∙_}
 use native.Mathlib.Omega.{arith}
@@ -8,12 +8,10 @@ use borrow.Author.Needs.{needs}
 use borrow.Author.Tests.{eqb-true, eq-eqb, ne-eqb}
 use denote.Ref.{now}
 use Rattle.laws.proofs.Bools.{or-neither, or-true-left, or-true-right, false-not-true}
-use Rattle.laws.specs.Row.{firstOf}
-use Rattle.plan.specs.declared.Plan.{Plan}
-use Rattle.weftpillar.specs.Answers.{planIn, leaves}
-use Rattle.weftpillar.specs.Calls.{runTests, stepsWrites, stepsAnswer, stepsLeavesRun, stepsLeavesAnswers, runFor}
-use Rattle.weftpillar.specs.Many.{answersBytes}
-use Rattle.weftpillar.proofs.Calling.{by-length, by-file, by-rows, refused-leaves}
+use Rattle.byte_calls.specs.TestsAndWrites.{runTests, stepsWrites, answersWrites}
+use Rattle.byte_calls.proofs.Answering.{refused-leaves}
+use Rattle.weftpillar.specs.Calls.{stepsAnswer, stepsLeavesRun, stepsLeavesAnswers}
+use Rattle.weftpillar.proofs.Calling.{by-length, by-file, by-rows, by-plan}
 use Rattle.weftpillar.proofs.weftpillar_steps.Statement.{statement}
 use Rattle.weftpillar.proofs.weftpillar_steps.Tie as tie
 
@@ -65,15 +63,12 @@ returns-4 c =
     let run = now (a .run) in
     let steps = now (a .steps) in
     let answers = now (a .answers) in
-    let P′ = planIn (now (a .plan)) in
     let e : d .result ≡ stepsAnswer (now (a .plan)) (now (a .run)) (now (a .steps)) (now (a .answers)) =
-    d .ensures .0
-    ∙ ap (λ (P : Plan). firstOf (runTests P run)) (t .ensures .1)
-    ∙ by-rows _ _ (λ P. runTests P run) (or-neither _ _ (ap not (eq-eqb _ 291 (c .before .before .before .before .before .before .before .before .before .before .before .before .if1 .left))) (sym (c .before .before .before .before .before .before .before .before .before .before .before .counts-differ .ensures) ∙ c .before .before .before .before .before .before .before .before .before .before .if2 .left)) (sym (t .ensures .0) ∙ c .before .before .before .before .before .before .before .if3 .left) in (
+    d .ensures .0 ∙ by-rows _ _ (λ P. runTests P run) (or-neither _ _ (ap not (eq-eqb _ 291 (c .before .before .before .before .before .before .before .before .before .before .before .before .if1 .left))) (sym (c .before .before .before .before .before .before .before .before .before .before .before .counts-differ .ensures) ∙ c .before .before .before .before .before .before .before .before .before .before .if2 .left)) _ (t .ensures .0) (c .before .before .before .before .before .before .before .if3 .left) _ (t .ensures .1) in (
       e,
       (
-        d .ensures .1 .0 ∙ ap (λ (P : Plan). leaves (d .result) (stepsWrites P run steps (length answers)) run) (t .ensures .1) ∙ ap (λ (n : ℕ). leaves n (stepsWrites P′ run steps (length answers)) run) e,
-        d .ensures .1 .1 ∙ ap (λ (P : Plan). leaves (d .result) (answersBytes P steps (length answers) (runFor P run) answers) answers) (t .ensures .1) ∙ ap (λ (n : ℕ). leaves n (answersBytes P′ steps (length answers) (runFor P′ run) answers) answers) e,
+        by-plan (λ P. stepsWrites P run steps (length answers)) _ _ _ _ _ _ (d .ensures .1 .0) (t .ensures .1) e,
+        by-plan (λ P. answersWrites P run steps answers) _ _ _ _ _ _ (d .ensures .1 .1) (t .ensures .1) e,
       ),
     )
 

@@ -1,0 +1,2 @@
+-- What several writers use.
+pub mod Writing

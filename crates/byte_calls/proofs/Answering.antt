@@ -1,0 +1,50 @@
+-- An answer that is the last row of a call's tests, and what an answer leaves in lent buffers.
+use Prim.Native.Nat.{ℕ}
+use mathlib.Core.Path.{_≡_, refl, sym, _∙_}
+use mathlib.Core.Bool.{Bool, true, false, cond, not}
+use mathlib.Core.List.{List, [], _∷_}
+use lib.Dec.{eqb}
+use borrow.Author.Tests.{eq-eqb, ne-eqb, eqb-true}
+use Rattle.laws.specs.Row.{firstOf}
+use Rattle.run.specs.declared.Reckoned.{Reckoned}
+use Rattle.run.specs.declared.Reckoned.the-variants as reckoned
+use Rattle.answer_bytes.specs.Answers.{reckonedNumber}
+use Rattle.answer_bytes.specs.Forms.{ticksBytes}
+use Rattle.byte_calls.specs.TestsAndWrites.{refusedBy, leaves}
+
+-- no row, no number
+pub none-given : firstOf [] ≡ 0
+unfolding firstOf
+none-given = refl
+
+pub refused-last : (m : ℕ) → m ≡ firstOf (refusedBy m ∷ [])
+unfolding firstOf
+refused-last m = go (eqb m 0) refl
+  where
+    go : (b : Bool) → eqb m 0 ≡ b → m ≡ cond (not (eqb m 0)) m 0
+    go true p = rw p (eqb-true m 0 p)
+    go false p = rw p
+
+-- a refused call leaves a buffer as it was, a done call what it wrote
+pub refused-leaves : (n answer : ℕ) (written before : List ℕ) → n ≡ answer → (n ≡ 0 → ⊥) → before ≡ leaves answer written before
+unfolding leaves
+refused-leaves n answer written before e z = rw (ne-eqb answer 0 (λ q. z (e ∙ q)))
+
+pub done-leaves : (answer : ℕ) (written before after : List ℕ) → 0 ≡ answer → after ≡ written → after ≡ leaves answer written before
+unfolding leaves
+done-leaves answer written before after e p = rw (eq-eqb answer 0 (sym e)) p
+
+-- what is written either way is left either way
+pub same-leaves : (answer : ℕ) (before : List ℕ) → before ≡ leaves answer before before
+unfolding leaves
+same-leaves answer before = go (eqb answer 0)
+  where
+    go : (b : Bool) → before ≡ cond b before before
+    go true = refl
+    go false = refl
+
+-- a form that is the buffer as it was where its answer is a refusal
+pub ticks-leaves : (x : Reckoned) (before : List ℕ) → ticksBytes x before ≡ leaves (reckonedNumber x) (ticksBytes x before) before
+unfolding ticksBytes leaves
+ticks-leaves (reckoned.Ticks n) before = refl
+ticks-leaves (reckoned.Refused n) before = same-leaves n before
