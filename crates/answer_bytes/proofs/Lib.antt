@@ -1,2 +1,3 @@
--- What several writers use.
+-- What several writers use, and the laws of a place in bytes.
 pub mod Writing
+pub mod PlaceRoundTrip

@@ -1,4 +1,4 @@
--- Laws of elements stored one after the other into a list: what stands where they went, and everywhere else.
+-- Laws of elements stored one after the other into a list: what stands before them, and where they went.
 use Prim.Native.Nat.{ℕ, zero, suc, _+_, _≤_, _<_}
 use mathlib.Core.Path.{_≡_, refl, ap, _∙_}
 use mathlib.Core.List.{List, [], _∷_}
@@ -11,10 +11,6 @@ module _ {A : Type 0} where
   pub getD-sets-before : (l : List A) (i j : ℕ) (vs : List A) (d : A) → j < i → getD (sets l i vs) j d ≡ getD l j d
   getD-sets-before l i j [] d h = refl
   getD-sets-before l i j (v ∷ vs) d h = getD-sets-before (set l i v) (suc i) j vs d (omega arith) ∙ getD-set-other l i j v d (λ e. omega arith)
-
-  pub getD-sets-after : (l : List A) (i j : ℕ) (vs : List A) (d : A) → i + length vs ≤ j → getD (sets l i vs) j d ≡ getD l j d
-  getD-sets-after l i j [] d h = refl
-  getD-sets-after l i j (v ∷ vs) d h = getD-sets-after (set l i v) (suc i) j vs d (omega arith) ∙ getD-set-other l i j v d (λ e. omega arith)
 
   -- the k-th of them stands k places on
   pub getD-sets-in : (l : List A) (i j k : ℕ) (vs : List A) (d : A) → j ≡ i + k → k < length vs → i + length vs ≤ length l → getD (sets l i vs) j d ≡ getD vs k d
