@@ -1,3 +1,3 @@
--- What several writers use, and the laws of a place in bytes.
-pub mod Writing
+-- The parts of a verdict, and the laws of a place in bytes.
+pub mod VerdictParts
 pub mod PlaceRoundTrip

@@ -1,4 +1,4 @@
--- Each answer as a number: 0 where it is no refusal, else the refusal's; 254 where a shown run is finished.
+-- Each answer as a number: 0 done, 254 finished, else the refusal's.
 use Prim.Native.Nat.{ℕ}
 use Rattle.run.specs.declared.Answer.{Answer}
 use Rattle.run.specs.declared.Answer.the-variants as answer

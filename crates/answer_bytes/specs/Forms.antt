@@ -1,4 +1,4 @@
--- Verdicts, steps and answers as bytes; numbers are big-endian. A form of a refusal is the buffer as it was.
+-- Verdicts, steps and answers as bytes; numbers are big-endian. Where there is nothing to write, the form is the buffer as it was.
 use Prim.Native.Nat.{ℕ}
 use mathlib.Core.List.{List, _∷_, _++_}
 use Rattle.rules.specs.declared.Outcome.{Outcome}

@@ -1,4 +1,4 @@
-// Answers as numbers: 0 where they are no refusal.
+// Answers as numbers: 0 done, 254 finished, else the refusal's.
 ghost use mathlib.Core.Path.{_≡_};
 ghost use Rattle.answer_bytes.specs.Answers.{answerNumber, reckonedNumber, nextNumber, lineNumber};
 use run::Answer;

@@ -1,4 +1,4 @@
-// Answers as bytes, each in a buffer of its own length; a refusal leaves the buffer as it was.
+// Answers as bytes, each in a buffer of its own length; where there is nothing to write, the buffer stays as it was.
 ghost use mathlib.Core.Path.{_≡_};
 ghost use mathlib.Core.List.{_∷_, _++_};
 ghost use lib.ListN.{length};

@@ -96,8 +96,8 @@ use Rattle.promises.specs.Promises.{OneAnswer, OneLeft, One}
 abbrev slot : ℕ → Slot
 slot n = record { 0 = n }
 
-taken : (x y : Taken) → x .number ≡ y .number → x .plan ≡ y .plan → x ≡ y
-taken x y n p = λ j. record { number = n j; plan = p j }
+same-taken : (x y : Taken) → x .number ≡ y .number → x .plan ≡ y .plan → x ≡ y
+same-taken x y n p = λ j. record { number = n j; plan = p j }
 
 module _ {K : Type 0} {A R L : K → Type 0} {C : Type 0} {lent : (κ : K) → L κ → C} {promise : (κ : K) → A κ → R κ → L κ → Type 0} where
   -- a promise that has an equation of the answer, and one of what is left
@@ -345,7 +345,7 @@ pub verdict-by-one : OneAnswer verdict-by.Post
 verdict-by-one κ a x y l m p q = p ∙ sym q
 
 pub taken-from-one : OneAnswer taken-from.Post
-taken-from-one κ a x y l m p q = taken x y (p .0 ∙ sym (q .0)) (p .1 ∙ sym (q .1))
+taken-from-one κ a x y l m p q = same-taken x y (p .0 ∙ sym (q .0)) (p .1 ∙ sym (q .1))
 
 pub step-on-one : One (λ κ l. now (l .1 .0)) step-on.Post
 step-on-one = answered _ _ (λ κ a x l p. p)

@@ -8,7 +8,7 @@ use native.Mathlib.Decide.{ℕ-discrete}
 use lib.Seq.{sets}
 use lib.Dec.{eqb, ltb}
 use borrow.Author.Tests.{ltb-false, eq-eqb, ne-eqb}
-use Rattle.laws.proofs.Bools.{or-false-left, or-false-right}
+use Rattle.laws.proofs.Bools.{or-false-left, or-false-right, cond-by}
 use Rattle.laws.specs.Below.{anyBelow}
 use Rattle.laws.proofs.Belows.{any-not}
 use Rattle.plan_file.specs.File.{byteAt, be16Of, be32Of}
@@ -17,7 +17,7 @@ use Rattle.run.specs.declared.Run.{Run}
 use Rattle.run.specs.State.{node}
 use Rattle.run_bytes.specs.RunBytes.{modeByte, modeIn, flagByte, nodeBytes, lastBytes, nodeIn, lastIn, runIn, nodesBytes, runBytes, nodeWrong, numbersWrong}
 use Rattle.run_bytes.proofs.Sets.{sets-same}
-use Rattle.run_bytes.proofs.RoundTrip.{node-read}
+use Rattle.run_bytes.proofs.RoundTrip.{LastFits, Holdable, node-read, fresh-read, length-read}
 
 mode-kept : (b : ℕ) → ltb 2 b ≡ false → modeByte (modeIn b) ≡ b
 unfolding modeIn
@@ -87,3 +87,21 @@ written-read N l few b h p =
     let wrong : ℕ → Bool = λ k. nodeWrong l (9 * k) in
     let right = any-not N wrong (or-false-left (anyBelow N wrong) (ltb 1 (byteAt l 288)) h) in
     rw (runBytes, nodes-kept N (runIn N l) l b right (node-read N l few)) (last-kept l b (or-false-right (anyBelow N wrong) (ltb 1 (byteAt l 288)) h) p)
+
+last-holdable : (l : List ℕ) → AllBytes l → LastFits (lastIn l)
+unfolding lastIn be16Of
+last-holdable l b = cond-by LastFits (eqb (byteAt l 288) 0) Nothing (At (record { 0 = be16Of l 289 })) (λ t. tt) (λ f. omega (arith, b 289, b 290))
+
+-- Every run that is read from bytes can be held in bytes.
+pub read-holdable : (N : ℕ) (l : List ℕ) → N ≤ 32 → AllBytes l → Holdable N (runIn N l)
+unfolding runIn nodeIn be16Of be32Of
+read-holdable N l few b = record {
+  places = length-read N l;
+  nodes-fit = λ i h. rw (node-read N l few i h) (record {
+    clock-fits = b (9 * i);
+    slot-fits = omega (arith, b (9 * i + 1), b (9 * i + 1 + 1));
+    time-fits = omega (arith, b (9 * i + 3), b (9 * i + 3 + 1), b (9 * i + 3 + 2), b (9 * i + 3 + 3));
+  });
+  rest-fresh = fresh-read N l;
+  last-fits = last-holdable l b;
+}

@@ -53,11 +53,11 @@ unfolding runIn
 node-read N l few i h = getD-over N (λ k a. nodeIn l (9 * k)) (replicate 32 freshNode) i freshNode h (omega (arith, length-replicate 32 freshNode))
 
 -- places from N on are read as fresh
-fresh-read : (N : ℕ) (l : List ℕ) (i : ℕ) → N ≤ i → i < 32 → node (runIn N l) i ≡ freshNode
+pub fresh-read : (N : ℕ) (l : List ℕ) (i : ℕ) → N ≤ i → i < 32 → node (runIn N l) i ≡ freshNode
 unfolding runIn
 fresh-read N l i past h = getD-past N (λ k a. nodeIn l (9 * k)) (replicate 32 freshNode) i freshNode past ∙ getD-replicate 32 i freshNode freshNode h
 
-length-read : (N : ℕ) (l : List ℕ) → length (runIn N l .nodes) ≡ 32
+pub length-read : (N : ℕ) (l : List ℕ) → length (runIn N l .nodes) ≡ 32
 unfolding runIn
 length-read N l = length-over N (λ k a. nodeIn l (9 * k)) (replicate 32 freshNode) ∙ length-replicate 32 freshNode
 

@@ -171,7 +171,7 @@ fn node_wrong(bytes: &[u8], at: usize) -> bool
     1 < bytes[at + 8]
 }
 
-// A number of the first places or of the last message lies outside its range.
+// The bytes spell no run: of the first places a mode or a mark that there isn't, or one of the last message.
 pub fn numbers_wrong(bytes: &[u8], nodes: usize) -> bool
     requires { ⌜ (nodes ≤ 32) × (291 ≤ length (now bytes)) ⌝ }
     ensures { λ r. ⌜ r ≡ numbersWrong nodes (now (bytes .entry)) ⌝ }

@@ -185,32 +185,32 @@ known-more line n r (at-whole k e b newline) h =
 known-more line n r (at-wrong never) h = at-wrong never
 
 -- a line that is no step line, and one that is
-no-good : (line : List ℕ) → (Good line → ⊥) → lineOf line ≡ Refused line-wrong
+not-good-refused : (line : List ℕ) → (Good line → ⊥) → lineOf line ≡ Refused line-wrong
 unfolding goodTest lineOf
-no-good line never = go (goodTest line) refl
+not-good-refused line never = go (goodTest line) refl
   where
     go : (t : Bool) → goodTest line ≡ t → lineOf line ≡ Refused line-wrong
     go true e = absurd (never (test-good line e))
     go false e = rw e
 
-good : (line : List ℕ) → Good line → lineOf line ≡ Asks (stepBy (byteOf line 0) (spelled line (digitCount line)))
+good-asked : (line : List ℕ) → Good line → lineOf line ≡ Asks (stepBy (byteOf line 0) (spelled line (digitCount line)))
 unfolding goodTest lineOf
-good line g = rw (good-test line g)
+good-asked line g = rw (good-test line g)
 
 -- what is known of the line after all its bytes
 known-end : (line : List ℕ) (r : Reading) → Known line (length line) r → lineOf line ≡ lineRead r
 unfolding lineRead
-known-end line r (at-nothing e) = no-good line (λ g. omega (arith, g .long))
-known-end line r (at-letter e letter) = no-good line (λ g. omega (arith, g .long))
-known-end line r (at-blank e letter blank) = no-good line (λ g. omega (arith, g .long))
+known-end line r (at-nothing e) = not-good-refused line (λ g. omega (arith, g .long))
+known-end line r (at-letter e letter) = not-good-refused line (λ g. omega (arith, g .long))
+known-end line r (at-blank e letter blank) = not-good-refused line (λ g. omega (arith, g .long))
 known-end line r (at-number k e b) =
     let last : 2 + (k - 1) ≡ length line - 1 = omega (arith, b .some) in
-    no-good line (λ g. clash (isDigit (byteOf line (2 + (k - 1)))) (b .digits (k - 1) (omega (arith, b .some))) (rw (last, g .newline)))
+    not-good-refused line (λ g. clash (isDigit (byteOf line (2 + (k - 1)))) (b .digits (k - 1) (omega (arith, b .some))) (rw (last, g .newline)))
 known-end line r (at-whole k e b newline) =
     let count : digitCount line ≡ k = omega arith in
     let last : length line - 1 ≡ 2 + k = omega arith in
-    good line (record { long = omega (arith, b .some); begun = rw count b; newline = rw last newline }) ∙ rw count
-known-end line r (at-wrong never) = no-good line never
+    good-asked line (record { long = omega (arith, b .some); begun = rw count b; newline = rw last newline }) ∙ rw count
+known-end line r (at-wrong never) = not-good-refused line never
 
 known-on : (line : List ℕ) (left n : ℕ) (r : Reading) → n + left ≡ length line → Known line n r → Known line (length line) (foldl readingAfter r (drop n line))
 known-on line zero n r e known = let q : n ≡ length line = omega arith in rw (q, drop-length) (rw q at known)

@@ -1,3 +1,4 @@
+-- Refused by the length, else all 32 places and the mark are written.
 use mathlib.Core.Bool.{not}
 use mathlib.Core.Path.{_≡_, sym, ap, _∙_}
 use native.Mathlib.Omega.{arith}

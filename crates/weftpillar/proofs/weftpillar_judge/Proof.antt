@@ -1,3 +1,4 @@
+-- Refused by the length or the reader, else the verdict of the plan in the file is written.
 use mathlib.Core.Bool.{not}
 use mathlib.Core.List.{[]}
 use mathlib.Core.Path.{_≡_, sym, ap, _∙_}

@@ -1,3 +1,4 @@
+-- Refused by the length, else the line's own answer, whose form leaves the buffer where it is a refusal.
 use Prim.Native.Nat.{ℕ}
 use mathlib.Core.Bool.{not}
 use mathlib.Core.Path.{_≡_, sym, ap, _∙_}

@@ -1,3 +1,4 @@
+-- Refused by a length or the reader, else the answer of the plan in the file, and the buffer by it.
 use mathlib.Core.Path.{_≡_, sym, _∙_}
 use native.Mathlib.Omega.{arith}
 use borrow.Author.Needs.{needs}

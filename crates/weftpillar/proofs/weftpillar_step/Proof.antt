@@ -1,3 +1,4 @@
+-- Refused by the length or the reader, else the answer of the plan in the file, and the run by it.
 use mathlib.Core.Bool.{not}
 use mathlib.Core.Path.{_≡_, ap, _∙_}
 use native.Mathlib.Omega.{arith}

@@ -1,3 +1,4 @@
+-- Refused by a length, by the count or by the reader, else the answer of the plan in the file, and both buffers by it.
 use Prim.Native.Nat.{_*_}
 use mathlib.Core.Bool.{not}
 use mathlib.Core.Path.{_≡_, sym, ap, _∙_}

@@ -1,3 +1,4 @@
+-- Each answer by its form; a refusal writes nothing.
 use mathlib.Core.Path.{sym, ap, _∙_}
 use borrow.Author.Needs.{needs}
 use denote.Ref.{now}

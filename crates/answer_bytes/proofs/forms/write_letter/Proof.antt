@@ -1,3 +1,4 @@
+-- Letter and number fill the buffer, so that nothing of what was there is left.
 use Prim.Native.Nat.{ℕ}
 use mathlib.Core.List.{List, _∷_}
 use mathlib.Core.Path.{ap, _∙_}
@@ -5,7 +6,7 @@ use lib.Seq.{sets}
 use borrow.Author.Needs.{needs}
 use denote.Ref.{now}
 use Rattle.run_bytes.specs.Numbers.{be32Bytes}
-use Rattle.answer_bytes.proofs.Writing.{sets-whole}
+use Rattle.run_bytes.proofs.Sets.{sets-whole}
 use Rattle.answer_bytes.proofs.forms.write_letter.Statement.{statement}
 use Rattle.answer_bytes.proofs.forms.write_letter.Tie as tie
 

@@ -1,3 +1,4 @@
+-- A step by its form; a finished run and a refusal write nothing.
 use mathlib.Core.Path.{sym, ap, _∙_}
 use borrow.Author.Needs.{needs}
 use denote.Ref.{now}

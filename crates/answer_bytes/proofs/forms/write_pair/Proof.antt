@@ -1,3 +1,4 @@
+-- Mark and both nodes fill the buffer, so that nothing of what was there is left.
 use Prim.Native.Nat.{ℕ}
 use mathlib.Core.List.{List, _∷_, _++_}
 use mathlib.Core.Path.{refl, ap, _∙_}
@@ -6,7 +7,7 @@ use lib.Seq.{sets}
 use borrow.Author.Needs.{needs}
 use denote.Ref.{now}
 use Rattle.run_bytes.specs.Numbers.{be32Bytes}
-use Rattle.answer_bytes.proofs.Writing.{sets-after, sets-whole}
+use Rattle.run_bytes.proofs.Sets.{sets-after, sets-whole}
 use Rattle.answer_bytes.proofs.forms.write_pair.Statement.{statement}
 use Rattle.answer_bytes.proofs.forms.write_pair.Tie as tie
 

@@ -1,3 +1,4 @@
+-- Each kind of step by its letter.
 use mathlib.Core.Path.{sym, ap, _∙_}
 use borrow.Author.Needs.{needs}
 use Rattle.answer_bytes.specs.Forms.{stepBytes}

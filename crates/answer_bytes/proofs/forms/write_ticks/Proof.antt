@@ -1,10 +1,11 @@
+-- The ticks fill the buffer; a refusal writes nothing.
 use mathlib.Core.Path.{sym, ap, _∙_}
 use borrow.Author.Needs.{needs}
 use denote.Ref.{now}
 use Rattle.run.specs.declared.Reckoned.{Reckoned}
 use Rattle.run_bytes.specs.Numbers.{be32Bytes}
 use Rattle.answer_bytes.specs.Forms.{ticksBytes}
-use Rattle.answer_bytes.proofs.Writing.{sets-whole}
+use Rattle.run_bytes.proofs.Sets.{sets-whole}
 use Rattle.answer_bytes.proofs.forms.write_ticks.Statement.{statement}
 use Rattle.answer_bytes.proofs.forms.write_ticks.Tie as tie
 

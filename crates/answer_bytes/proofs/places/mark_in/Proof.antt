@@ -1,3 +1,4 @@
+-- The tests are those of the definition.
 use Rattle.laws.proofs.Tests.{tests}
 use Rattle.answer_bytes.specs.Places.{markIn}
 use Rattle.answer_bytes.proofs.places.mark_in.Statement.{statement}

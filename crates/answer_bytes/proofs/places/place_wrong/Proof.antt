@@ -1,3 +1,4 @@
+-- No run, or no mark: the tests are those of the definition.
 use mathlib.Core.Path.{sym, _∙_}
 use borrow.Author.Needs.{needs}
 use Rattle.laws.proofs.Bools.{or-true-left}

@@ -1,3 +1,4 @@
+-- Run and mark, each by its reader.
 use borrow.Author.Needs.{needs}
 use Rattle.answer_bytes.specs.Places.{placeIn}
 use Rattle.answer_bytes.proofs.places.read_place.Statement.{statement}

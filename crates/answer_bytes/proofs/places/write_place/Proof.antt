@@ -1,3 +1,4 @@
+-- The run, then the mark after it, each by its writer.
 use Prim.Native.Nat.{ℕ}
 use mathlib.Core.List.{List}
 use mathlib.Core.Path.{ap, _∙_}

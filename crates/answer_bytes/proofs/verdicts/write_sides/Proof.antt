@@ -1,3 +1,4 @@
+-- Two numbers, one after the other.
 use Prim.Native.Nat.{ℕ, _+_}
 use mathlib.Core.List.{List}
 use mathlib.Core.Path.{refl, ap, _∙_}
@@ -6,7 +7,7 @@ use borrow.Author.Needs.{needs}
 use denote.Ref.{now}
 use Rattle.run_bytes.specs.Numbers.{be64Bytes}
 use Rattle.answer_bytes.specs.Forms.{sidesBytes}
-use Rattle.answer_bytes.proofs.Writing.{sets-after}
+use Rattle.run_bytes.proofs.Sets.{sets-after}
 use Rattle.answer_bytes.proofs.verdicts.write_sides.Statement.{statement}
 use Rattle.answer_bytes.proofs.verdicts.write_sides.Tie as tie
 

@@ -1,3 +1,4 @@
+-- Each part by its writer; together they fill the buffer.
 use Prim.Native.Nat.{ℕ}
 use mathlib.Core.List.{List}
 use mathlib.Core.Path.{ap, _∙_}
@@ -7,7 +8,7 @@ use borrow.Author.Needs.{needs}
 use denote.Ref.{now}
 use Rattle.run_bytes.specs.Numbers.{be16Bytes}
 use Rattle.answer_bytes.specs.Forms.{sidesBytes}
-use Rattle.answer_bytes.proofs.Writing.{verdict-whole}
+use Rattle.answer_bytes.proofs.VerdictParts.{parts-whole}
 use Rattle.answer_bytes.proofs.verdicts.write_verdict.Statement.{statement}
 use Rattle.answer_bytes.proofs.verdicts.write_verdict.Tie as tie
 
@@ -45,7 +46,7 @@ returns c =
     (c .before .before .before .before .before .before .before .before .before .before .before .before .before .before .put16 .ensures
     ∙ ap (λ (l : List ℕ). sets l 1 (be16Bytes (v .gap .0)))
     (c .before .before .before .before .before .before .before .before .before .before .before .before .before .before .before .before .before .before .put8 .ensures ∙ ap (λ (n : ℕ). set (now (a .bytes)) 0 n) (c .before .before .before .before .before .before .before .before .before .before .before .before .before .before .before .before .before .before .before .outcome-number .ensures)))))
-    ∙ verdict-whole (now (a .bytes)) v (c .before .before .before .before .before .before .before .before .before .before .before .before .before .before .before .before .before .before .before .before .before .before .pre)
+    ∙ parts-whole (now (a .bytes)) v (c .before .before .before .before .before .before .before .before .before .before .before .before .before .before .before .before .before .before .before .before .before .before .pre)
 
 pub write-verdict-spec : {M : Type 1} → statement M
 write-verdict-spec =

@@ -1,3 +1,4 @@
+-- With a remainder there are not five bytes for each answer; with none, the fifths are counted.
 use Prim.Native.Nat.{_*_}
 use mathlib.Core.Bool.{not}
 use mathlib.Core.Path.{sym, ap}

@@ -1,3 +1,4 @@
+-- The tests are those of the definition.
 use Rattle.laws.proofs.Tests.{tests}
 use Rattle.byte_calls.proofs.lengths.lengths_differ.Statement.{statement}
 use Rattle.byte_calls.proofs.lengths.lengths_differ.Tie as tie

@@ -1,3 +1,4 @@
+-- 19 by the letter, else the step; either leaves the run in range.
 use mathlib.Core.Path.{sym, _∙_}
 use borrow.Author.Needs.{needs}
 use borrow.Author.Tests.{not-true, not-false}

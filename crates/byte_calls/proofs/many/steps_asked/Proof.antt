@@ -1,3 +1,4 @@
+-- After k steps: the run is the one after the first k, in range, and the first k answers are written.
 use Prim.Native.Nat.{ℕ, _≤_, _-_}
 use mathlib.Core.Bool.{true}
 use mathlib.Core.Path.{_≡_, ap, _∙_}

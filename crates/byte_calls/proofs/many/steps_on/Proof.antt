@@ -1,3 +1,4 @@
+-- 10 once; a run that it lets through is in range, so that all steps can be asked.
 use mathlib.Core.Path.{refl, sym, ap, _∙_}
 use native.Mathlib.Omega.{arith}
 use lib.ListN.{length}

@@ -1,3 +1,4 @@
+-- 10, else the form of the out-of-step test's answer.
 use mathlib.Core.Path.{refl, sym, ap, _∙_}
 use native.Mathlib.Omega.{arith}
 use borrow.Author.Needs.{needs}

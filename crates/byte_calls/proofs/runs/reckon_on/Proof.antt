@@ -1,3 +1,4 @@
+-- 10, else the reckoning's own answer, whose form leaves the buffer where it is a refusal.
 use Prim.Native.Nat.{ℕ}
 use mathlib.Core.Path.{_≡_, refl, sym, ap, _∙_}
 use native.Mathlib.Omega.{arith}

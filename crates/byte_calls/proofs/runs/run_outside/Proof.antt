@@ -1,3 +1,4 @@
+-- Bytes that spell no run, else the run's ranges.
 use mathlib.Core.Path.{sym, _∙_}
 use native.Mathlib.Omega.{arith}
 use borrow.Author.Needs.{needs}

@@ -1,3 +1,4 @@
+-- 19, 10, else the step's own answer: each is the first row that is given.
 use mathlib.Core.Bool.{not}
 use mathlib.Core.Path.{_≡_, refl, sym, ap, _∙_}
 use native.Mathlib.Omega.{arith}

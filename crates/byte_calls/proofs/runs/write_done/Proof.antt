@@ -1,3 +1,4 @@
+-- A refused step leaves the bytes, a done one writes the run after it.
 use mathlib.Core.Path.{refl, sym, _∙_}
 use native.Mathlib.Omega.{arith}
 use borrow.Author.Needs.{needs}

@@ -1,3 +1,4 @@
+-- 10, else the shown run's own answer at the place that was read.
 use mathlib.Core.Path.{_≡_, refl, sym, ap, _∙_}
 use native.Mathlib.Omega.{arith}
 use borrow.Author.Needs.{needs}

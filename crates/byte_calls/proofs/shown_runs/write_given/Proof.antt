@@ -1,3 +1,4 @@
+-- Without a step both buffers stay, with one both are written.
 use mathlib.Core.Path.{refl, sym, _∙_}
 use borrow.Author.Needs.{needs}
 use Rattle.byte_calls.proofs.Answering.{refused-leaves, done-leaves}

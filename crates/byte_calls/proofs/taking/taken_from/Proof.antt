@@ -1,3 +1,4 @@
+-- The reader's answer and plan; a plan that it takes passed 1 to 9.
 use mathlib.Core.Path.{_≡_, sym, _∙_}
 use borrow.Author.Needs.{needs}
 use denote.Ref.{now}
