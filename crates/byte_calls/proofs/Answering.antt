@@ -1,16 +1,19 @@
--- An answer that is the last row of a call's tests, and what an answer leaves in lent buffers.
+-- What a call answers by the last row of its tests, and by 10; and what an answer leaves in lent buffers.
 use Prim.Native.Nat.{ℕ}
 use mathlib.Core.Path.{_≡_, refl, sym, _∙_}
 use mathlib.Core.Bool.{Bool, true, false, cond, not}
 use mathlib.Core.List.{List, [], _∷_}
 use lib.Dec.{eqb}
 use borrow.Author.Tests.{eq-eqb, ne-eqb, eqb-true}
-use Rattle.laws.specs.Row.{firstOf}
+use Rattle.laws.specs.Row.{given, firstOf}
+use Rattle.laws.proofs.Rows.{first-here, first-next}
+use Rattle.plan.specs.declared.Plan.{Plan}
+use Rattle.plan.specs.Refusals.{run-outside}
 use Rattle.run.specs.declared.Reckoned.{Reckoned}
 use Rattle.run.specs.declared.Reckoned.the-variants as reckoned
 use Rattle.answer_bytes.specs.Answers.{reckonedNumber}
 use Rattle.answer_bytes.specs.Forms.{ticksBytes}
-use Rattle.byte_calls.specs.TestsAndWrites.{refusedBy, leaves}
+use Rattle.byte_calls.specs.TestsAndWrites.{refusedBy, leaves, runOutside, runTests}
 
 -- no row, no number
 pub none-given : firstOf [] ≡ 0
@@ -24,6 +27,20 @@ refused-last m = go (eqb m 0) refl
     go : (b : Bool) → eqb m 0 ≡ b → m ≡ cond (not (eqb m 0)) m 0
     go true p = rw p (eqb-true m 0 p)
     go false p = rw p
+
+-- 10 of a run, and no test left after it
+module _ (P : Plan) (run : List ℕ) where
+  pub outside-answers : runOutside P run ≡ true → 10 ≡ firstOf (runTests P run)
+  unfolding runTests
+  outside-answers outside = first-here (given run-outside _) _ outside
+
+  pub inside-answers : runOutside P run ≡ false → 0 ≡ firstOf (runTests P run)
+  unfolding runTests
+  inside-answers inside = sym (first-next (given run-outside _) _ inside ∙ none-given)
+
+pub outside-leaves : (written before : List ℕ) → before ≡ leaves 10 written before
+unfolding leaves
+outside-leaves written before = refl
 
 -- a refused call leaves a buffer as it was, a done call what it wrote
 pub refused-leaves : (n answer : ℕ) (written before : List ℕ) → n ≡ answer → (n ≡ 0 → ⊥) → before ≡ leaves answer written before

@@ -101,15 +101,15 @@ same-taken x y n p = λ j. record { number = n j; plan = p j }
 
 module _ {K : Type 0} {A R L : K → Type 0} {C : Type 0} {lent : (κ : K) → L κ → C} {promise : (κ : K) → A κ → R κ → L κ → Type 0} where
   -- a promise that has an equation of the answer, and one of what is left
-  equations : (f : (κ : K) → A κ → R κ) (g : (κ : K) → A κ → C) → ((κ : K) (a : A κ) (x : R κ) (l : L κ) → promise κ a x l → (x ≡ f κ a) × (lent κ l ≡ g κ a)) → One lent promise
-  equations f g two = record {
+  by-equations : (f : (κ : K) → A κ → R κ) (g : (κ : K) → A κ → C) → ((κ : K) (a : A κ) (x : R κ) (l : L κ) → promise κ a x l → (x ≡ f κ a) × (lent κ l ≡ g κ a)) → One lent promise
+  by-equations f g two = record {
     answer = λ κ a x y l m p q. two κ a x l p .0 ∙ sym (two κ a y m q .0);
     left = λ κ a x y l m p q. two κ a x l p .1 ∙ sym (two κ a y m q .1);
   }
 
   -- the same where what is left is told by the answer
-  answered : (f : (κ : K) → A κ → R κ) (g : (κ : K) → A κ → R κ → C) → ((κ : K) (a : A κ) (x : R κ) (l : L κ) → promise κ a x l → (x ≡ f κ a) × (lent κ l ≡ g κ a x)) → One lent promise
-  answered f g two = equations f (λ κ a. g κ a (f κ a)) (λ κ a x l p. (two κ a x l p .0, two κ a x l p .1 ∙ ap (g κ a) (two κ a x l p .0)))
+  by-answer : (f : (κ : K) → A κ → R κ) (g : (κ : K) → A κ → R κ → C) → ((κ : K) (a : A κ) (x : R κ) (l : L κ) → promise κ a x l → (x ≡ f κ a) × (lent κ l ≡ g κ a x)) → One lent promise
+  by-answer f g two = by-equations f (λ κ a. g κ a (f κ a)) (λ κ a x l p. (two κ a x l p .0, two κ a x l p .1 ∙ ap (g κ a) (two κ a x l p .0)))
 
 -- plan
 
@@ -224,36 +224,36 @@ given-tested-one κ a x y l m p q = p .0 ∙ sym (q .0)
 -- text: bytes put into a lent buffer
 
 pub put-byte-one : One (λ κ l. now (l .0)) put-byte.Post
-put-byte-one = equations _ _ (λ κ a x l p. (p .ends, p .holds))
+put-byte-one = by-equations _ _ (λ κ a x l p. (p .ends, p .holds))
 
 pub put-word-one : One (λ κ l. now (l .0)) put-word.Post
-put-word-one = equations _ _ (λ κ a x l p. (p .ends, p .holds))
+put-word-one = by-equations _ _ (λ κ a x l p. (p .ends, p .holds))
 
 pub put-number-one : One (λ κ l. now (l .0)) put-number.Post
-put-number-one = equations _ _ (λ κ a x l p. (p .ends, p .holds))
+put-number-one = by-equations _ _ (λ κ a x l p. (p .ends, p .holds))
 
 pub put-wide-one : One (λ κ l. now (l .0)) put-wide.Post
-put-wide-one = equations _ _ (λ κ a x l p. (p .ends, p .holds))
+put-wide-one = by-equations _ _ (λ κ a x l p. (p .ends, p .holds))
 
 pub put-numbered-one : One (λ κ l. now (l .0)) put-numbered.Post
-put-numbered-one = equations _ _ (λ κ a x l p. (p .ends, p .holds))
+put-numbered-one = by-equations _ _ (λ κ a x l p. (p .ends, p .holds))
 
 -- lines: texts written into a lent buffer
 
 pub write-judged-one : One (λ κ l. now (l .0)) write-judged.Post
-write-judged-one = equations _ _ (λ κ a x l p. p)
+write-judged-one = by-equations _ _ (λ κ a x l p. p)
 
 pub write-step-one : One (λ κ l. now (l .0)) write-step.Post
-write-step-one = equations _ _ (λ κ a x l p. p)
+write-step-one = by-equations _ _ (λ κ a x l p. p)
 
 pub write-out-one : One (λ κ l. now (l .0)) write-out.Post
-write-out-one = equations _ _ (λ κ a x l p. p)
+write-out-one = by-equations _ _ (λ κ a x l p. p)
 
 pub write-answer-one : One (λ κ l. now (l .0)) write-answer.Post
-write-answer-one = equations _ _ (λ κ a x l p. p)
+write-answer-one = by-equations _ _ (λ κ a x l p. p)
 
 pub write-refused-one : One (λ κ l. now (l .0)) write-refused.Post
-write-refused-one = equations _ _ (λ κ a x l p. p)
+write-refused-one = by-equations _ _ (λ κ a x l p. p)
 
 -- step_lines
 
@@ -348,60 +348,60 @@ pub taken-from-one : OneAnswer taken-from.Post
 taken-from-one κ a x y l m p q = same-taken x y (p .0 ∙ sym (q .0)) (p .1 ∙ sym (q .1))
 
 pub step-on-one : One (λ κ l. now (l .1 .0)) step-on.Post
-step-on-one = answered _ _ (λ κ a x l p. p)
+step-on-one = by-answer _ _ (λ κ a x l p. p)
 
 pub apart-on-one : One (λ κ l. now (l .1 .1 .0)) apart-on.Post
-apart-on-one = answered _ _ (λ κ a x l p. p)
+apart-on-one = by-answer _ _ (λ κ a x l p. p)
 
 pub reckon-on-one : One (λ κ l. now (l .1 .1 .1 .0)) reckon-on.Post
-reckon-on-one = answered _ _ (λ κ a x l p. p)
+reckon-on-one = by-answer _ _ (λ κ a x l p. p)
 
 pub steps-on-one : One (λ κ l. now (l .1 .0)) steps-on.Post
-steps-on-one = answered _ _ (λ κ a x l p. (p .0, p .1 .0))
+steps-on-one = by-answer _ _ (λ κ a x l p. (p .0, p .1 .0))
 
 pub steps-on-second : One (λ κ l. now (l .1 .1 .1 .0)) steps-on.Post
-steps-on-second = answered _ _ (λ κ a x l p. (p .0, p .1 .1))
+steps-on-second = by-answer _ _ (λ κ a x l p. (p .0, p .1 .1))
 
 pub next-on-one : One (λ κ l. now (l .1 .0)) next-on.Post
-next-on-one = answered _ _ (λ κ a x l p. (p .0, p .1 .0))
+next-on-one = by-answer _ _ (λ κ a x l p. (p .0, p .1 .0))
 
 pub next-on-second : One (λ κ l. now (l .1 .1 .0)) next-on.Post
-next-on-second = answered _ _ (λ κ a x l p. (p .0, p .1 .1))
+next-on-second = by-answer _ _ (λ κ a x l p. (p .0, p .1 .1))
 
 -- weftpillar: each call and each buffer that it may write
 
 pub weftpillar-judge-one : One (λ κ l. now (l .1 .0)) weftpillar-judge.Post
-weftpillar-judge-one = equations _ _ (λ κ a x l p. p)
+weftpillar-judge-one = by-equations _ _ (λ κ a x l p. p)
 
 pub weftpillar-fresh-one : One (λ κ l. now (l .0)) weftpillar-fresh.Post
-weftpillar-fresh-one = equations _ _ (λ κ a x l p. p)
+weftpillar-fresh-one = by-equations _ _ (λ κ a x l p. p)
 
 pub weftpillar-fresh-place-one : One (λ κ l. now (l .0)) weftpillar-fresh-place.Post
-weftpillar-fresh-place-one = equations _ _ (λ κ a x l p. p)
+weftpillar-fresh-place-one = by-equations _ _ (λ κ a x l p. p)
 
 pub weftpillar-step-one : One (λ κ l. now (l .1 .0)) weftpillar-step.Post
-weftpillar-step-one = equations _ _ (λ κ a x l p. p)
+weftpillar-step-one = by-equations _ _ (λ κ a x l p. p)
 
 pub weftpillar-steps-one : One (λ κ l. now (l .1 .0)) weftpillar-steps.Post
-weftpillar-steps-one = equations _ _ (λ κ a x l p. (p .0, p .1 .0))
+weftpillar-steps-one = by-equations _ _ (λ κ a x l p. (p .0, p .1 .0))
 
 pub weftpillar-steps-second : OneLeft (λ κ l. now (l .1 .1 .1 .0)) weftpillar-steps.Post
 weftpillar-steps-second κ a x y l m p q = p .1 .1 ∙ sym (q .1 .1)
 
 pub weftpillar-out-of-step-one : One (λ κ l. now (l .1 .1 .0)) weftpillar-out-of-step.Post
-weftpillar-out-of-step-one = equations _ _ (λ κ a x l p. p)
+weftpillar-out-of-step-one = by-equations _ _ (λ κ a x l p. p)
 
 pub weftpillar-reckon-one : One (λ κ l. now (l .1 .1 .1 .0)) weftpillar-reckon.Post
-weftpillar-reckon-one = equations _ _ (λ κ a x l p. p)
+weftpillar-reckon-one = by-equations _ _ (λ κ a x l p. p)
 
 pub weftpillar-next-one : One (λ κ l. now (l .1 .0)) weftpillar-next.Post
-weftpillar-next-one = equations _ _ (λ κ a x l p. (p .0, p .1 .0))
+weftpillar-next-one = by-equations _ _ (λ κ a x l p. (p .0, p .1 .0))
 
 pub weftpillar-next-second : OneLeft (λ κ l. now (l .1 .1 .0)) weftpillar-next.Post
 weftpillar-next-second κ a x y l m p q = p .1 .1 ∙ sym (q .1 .1)
 
 pub weftpillar-line-one : One (λ κ l. now (l .1 .0)) weftpillar-line.Post
-weftpillar-line-one = equations _ _ (λ κ a x l p. p)
+weftpillar-line-one = by-equations _ _ (λ κ a x l p. p)
 
 -- desk, the run that is lent: its contract is proved by hand and has no such form, so the two equations of it are written out
 

@@ -4,6 +4,7 @@ use Prim.Native.Nat.{ℕ}
 use mathlib.Core.Path.{_≡_, refl, sym, ap, _∙_}
 use mathlib.Core.Bool.{Bool, true, false, not}
 use mathlib.Core.List.{List, _∷_}
+use native.Mathlib.Omega.{arith}
 use borrow.Author.Tests.{eq-eqb, ne-eqb}
 use Rattle.laws.specs.Row.{Row, given, firstOf}
 use Rattle.laws.proofs.Rows.{first-here, first-next}
@@ -14,7 +15,7 @@ use Rattle.answer_bytes.specs.Answers.{lineNumber}
 use Rattle.answer_bytes.specs.Forms.{lineBytes}
 use Rattle.byte_calls.specs.Taken.{fileRefusal, planIn}
 use Rattle.byte_calls.specs.TestsAndWrites.{refusedBy, leaves}
-use Rattle.byte_calls.proofs.Answering.{same-leaves}
+use Rattle.byte_calls.proofs.Answering.{refused-leaves, same-leaves}
 use Rattle.weftpillar.specs.Answers.{another-length, answered}
 
 -- an answer that is a row: it is the first row's number, or the rest's
@@ -25,26 +26,32 @@ refused-next : (n m : ℕ) (rows : List Row) → n ≡ m → n ≡ 0 → firstOf
 refused-next n m rows e z = first-next (refusedBy m) rows (ap not (eq-eqb m 0 (sym e ∙ z)))
 
 module _ (wrong : Bool) (f : List ℕ) (rows : Plan → List Row) where
-  pub by-length : wrong ≡ true → 255 ≡ answered wrong f rows
-  unfolding answered
-  by-length w = first-here (given another-length wrong) _ w
+  -- what the call answers, and the one thing that it leaves in a buffer
+  abbrev Ends : (n : ℕ) (written before after : List ℕ) → Type 0
+  Ends n written before after = (n ≡ answered wrong f rows) × (after ≡ leaves (answered wrong f rows) written before)
 
-  pub by-file : wrong ≡ false → (n : ℕ) → n ≡ fileRefusal f → (n ≡ 0 → ⊥) → n ≡ answered wrong f rows
+  pub length-refuses : wrong ≡ true → (written before : List ℕ) → Ends 255 written before before
   unfolding answered
-  by-file w n e z =
-      refused-here n (fileRefusal f) (rows (planIn f)) e z ∙ sym (first-next (given another-length wrong) _ w)
+  length-refuses w written before =
+      let e : 255 ≡ answered wrong f rows = first-here (given another-length wrong) _ w in
+      (e, refused-leaves 255 _ written before e (λ z. omega arith))
 
-  pub by-rows : wrong ≡ false → (n : ℕ) → n ≡ fileRefusal f → n ≡ 0 → (P : Plan) → P ≡ planIn f → firstOf (rows P) ≡ answered wrong f rows
+  pub file-refuses : wrong ≡ false → (n : ℕ) → n ≡ fileRefusal f → (n ≡ 0 → ⊥) → (written before : List ℕ) → Ends n written before before
   unfolding answered
-  by-rows w n e z P p =
-      ap (λ (Q : Plan). firstOf (rows Q)) p
-      ∙ sym (refused-next n (fileRefusal f) (rows (planIn f)) e z)
-      ∙ sym (first-next (given another-length wrong) _ w)
+  file-refuses w n e z written before =
+      let a : n ≡ answered wrong f rows = refused-here n (fileRefusal f) (rows (planIn f)) e z ∙ sym (first-next (given another-length wrong) _ w) in
+      (a, refused-leaves n _ written before a z)
 
--- what is left by the plan that was taken is left by the plan in the file
-pub by-plan : (written : Plan → List ℕ) (before after : List ℕ) (P Q : Plan) (n answer : ℕ) → after ≡ leaves n (written P) before → P ≡ Q → n ≡ answer → after ≡ leaves answer (written Q) before
-by-plan written before after P Q n answer left p e =
-    left ∙ ap (λ (R : Plan). leaves n (written R) before) p ∙ ap (λ (m : ℕ). leaves m (written Q) before) e
+  -- by the rows of a plan that was taken from the file, with what it writes
+  pub plan-answers : wrong ≡ false → (t : ℕ) (P : Plan) → t ≡ fileRefusal f → t ≡ 0 → P ≡ planIn f → (n : ℕ) → n ≡ firstOf (rows P) → (written : Plan → List ℕ) (before after : List ℕ) → after ≡ leaves n (written P) before → Ends n (written (planIn f)) before after
+  unfolding answered
+  plan-answers w t P e z p n rowed written before after left =
+      let a : n ≡ answered wrong f rows =
+      rowed
+      ∙ ap (λ (Q : Plan). firstOf (rows Q)) p
+      ∙ sym (refused-next t (fileRefusal f) (rows (planIn f)) e z)
+      ∙ sym (first-next (given another-length wrong) _ w) in
+      (a, left ∙ ap (λ (Q : Plan). leaves n (written Q) before) p ∙ ap (λ (m : ℕ). leaves m (written (planIn f)) before) a)
 
 -- a step that is the buffer as it was where the line is refused
 pub line-leaves : (x : Line) (before : List ℕ) → lineBytes x before ≡ leaves (lineNumber x) (lineBytes x before) before

@@ -4,16 +4,10 @@ use native.Mathlib.Omega.{arith}
 use lib.ListN.{length}
 use borrow.Author.Needs.{needs}
 use denote.Ref.{now}
-use Rattle.laws.proofs.Rows.{first-here, first-next}
-use Rattle.laws.specs.Row.{given}
 use Rattle.plan.proofs.Sound.{sound}
-use Rattle.plan.specs.Refusals.{run-outside}
 use Rattle.run.specs.State.{inRange}
 use Rattle.run.specs.declared.Run.{Run}
-use Rattle.run_bytes.specs.RunBytes.{runBytes}
-use Rattle.byte_calls.specs.Many.{afterAsked, answersBytes}
-use Rattle.byte_calls.specs.TestsAndWrites.{runTests}
-use Rattle.byte_calls.proofs.Answering.{none-given, refused-leaves, done-leaves}
+use Rattle.byte_calls.proofs.Answering.{outside-answers, inside-answers, outside-leaves, done-leaves}
 use Rattle.byte_calls.proofs.Passing.{inside-range}
 use Rattle.byte_calls.proofs.many.steps_on.Statement.{statement}
 use Rattle.byte_calls.proofs.many.steps_on.Tie as tie
@@ -25,8 +19,7 @@ same-length : tie.Need-same-length
 same-length c = search needs
 
 returns : tie.Need-returns
-unfolding runTests
-returns c = (first-here (given run-outside _) _ (sym (c .before .run-outside .ensures) ∙ c .if1 .taken), (refused-leaves 10 10 _ _ refl (λ z. omega arith), refused-leaves 10 10 _ _ refl (λ z. omega arith)))
+returns c = (outside-answers _ _ (sym (c .before .run-outside .ensures) ∙ c .if1 .taken), (outside-leaves _ _, outside-leaves _ _))
 
 cast-nodes : tie.Need-cast-nodes
 cast-nodes c = search needs
@@ -50,17 +43,16 @@ same-length-3 : tie.Need-same-length-3
 same-length-3 c = search needs
 
 returns-2 : tie.Need-returns-2
-unfolding runTests
 returns-2 c =
     let a = c .before .before .before .before .before .before .before .before .before .before .before .before .before .before .before .before .before .args in
     let n = length (now (a .answers)) in
     let s = now (a .steps) in
     let d = c .before .before .before .before .before .before .steps-asked in
     let r = c .before .before .before .before .before .before .before .before .read-run .ensures in (
-      sym (first-next (given run-outside _) _ (sym (c .before .before .before .before .before .before .before .before .before .before .before .before .run-outside .ensures) ∙ c .before .before .before .before .before .before .before .before .before .before .before .if1 .left) ∙ none-given),
+      inside-answers _ _ (sym (c .before .before .before .before .before .before .before .before .before .before .before .before .run-outside .ensures) ∙ c .before .before .before .before .before .before .before .before .before .before .before .if1 .left),
       (
-        done-leaves 0 _ _ _ refl (c .before .before .write-run .ensures ∙ ap (λ (x : Run). runBytes (a .plan .nodes .0) x (now (a .run))) (d .ensures .0 ∙ ap (λ (x : Run). afterAsked (a .plan) s n x) r)),
-        done-leaves 0 _ _ _ refl (d .ensures .1 ∙ ap (λ (x : Run). answersBytes (a .plan) s n x (now (a .answers))) r),
+        done-leaves 0 _ _ _ refl (rw (c .before .before .write-run .ensures, d .ensures .0, r)),
+        done-leaves 0 _ _ _ refl (rw (d .ensures .1, r)),
       ),
     )
 

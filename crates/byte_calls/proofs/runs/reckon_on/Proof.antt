@@ -1,6 +1,5 @@
 -- 10, else the reckoning's own answer, whose form leaves the buffer where it is a refusal.
-use Prim.Native.Nat.{ℕ}
-use mathlib.Core.Path.{_≡_, refl, sym, ap, _∙_}
+use mathlib.Core.Path.{_≡_, sym, _∙_}
 use native.Mathlib.Omega.{arith}
 use borrow.Author.Needs.{needs}
 use denote.Ref.{now}
@@ -10,11 +9,9 @@ use Rattle.plan.proofs.Sound.{sound}
 use Rattle.plan.specs.Refusals.{run-outside}
 use Rattle.run.specs.Reckoning.{reckonedTested}
 use Rattle.run.specs.declared.Reckoned.{Reckoned}
-use Rattle.run.specs.declared.Run.{Run}
 use Rattle.answer_bytes.specs.Answers.{reckonedNumber}
-use Rattle.answer_bytes.specs.Forms.{ticksBytes}
-use Rattle.byte_calls.specs.TestsAndWrites.{leaves, runFor, reckonTests}
-use Rattle.byte_calls.proofs.Answering.{refused-last, refused-leaves, ticks-leaves}
+use Rattle.byte_calls.specs.TestsAndWrites.{runFor, reckonTests}
+use Rattle.byte_calls.proofs.Answering.{refused-last, outside-leaves, ticks-leaves}
 use Rattle.byte_calls.proofs.runs.reckon_on.Statement.{statement}
 use Rattle.byte_calls.proofs.runs.reckon_on.Tie as tie
 
@@ -26,7 +23,7 @@ numbers-wrong-requires c κs = let s = sound _ (c .before .before .before .pre .
 
 returns : tie.Need-returns
 unfolding reckonTests
-returns c = (first-here (given run-outside _) _ (sym (c .before .numbers-wrong .ensures) ∙ c .if1 .taken), refused-leaves 10 10 _ _ refl (λ z. omega arith))
+returns c = (first-here (given run-outside _) _ (sym (c .before .numbers-wrong .ensures) ∙ c .if1 .taken), outside-leaves _ _)
 
 read-run-requires : tie.Need-read-run-requires
 read-run-requires c κs = let s = sound _ (c .before .before .before .before .before .pre .0) in (s .nodes-high, omega arith)
@@ -50,10 +47,10 @@ returns-2 c =
     let b = now (a .ticks) in
     let x : Reckoned = reckonedTested (a .plan) (runFor (a .plan) (now (a .run))) (a .node) in
     let d : c .before .before .before .before .before .reckon-tested .result ≡ x =
-    c .before .before .before .before .before .reckon-tested .ensures ∙ ap (λ (r : Run). reckonedTested (a .plan) r (a .node)) (c .before .before .before .before .before .before .read-run .ensures) in
-    let m = c .reckoned-number .ensures ∙ ap (λ (y : Reckoned). reckonedNumber y) d in (
+    rw (c .before .before .before .before .before .reckon-tested .ensures, c .before .before .before .before .before .before .read-run .ensures) in
+    let m : c .reckoned-number .result ≡ reckonedNumber x = rw (c .reckoned-number .ensures, d) in (
       m ∙ refused-last (reckonedNumber x) ∙ sym (first-next (given run-outside _) _ (sym (c .before .before .before .before .before .before .before .before .numbers-wrong .ensures) ∙ c .before .before .before .before .before .before .before .if1 .left)),
-      c .before .before .before .write-ticks .ensures ∙ ap (λ (y : Reckoned). ticksBytes y b) d ∙ ticks-leaves x b ∙ ap (λ (n : ℕ). leaves n (ticksBytes x b) b) (sym m),
+      rw (c .before .before .before .write-ticks .ensures, m, d) (ticks-leaves x b),
     )
 
 pub reckon-on-spec : {M : Type 1} → statement M

@@ -11,13 +11,10 @@ use Rattle.step_lines.specs.StepLine.{stepBy}
 use Rattle.plan.proofs.Sound.{sound}
 use Rattle.plan.specs.Refusals.{line-wrong, run-outside}
 use Rattle.run.specs.Steps.{stepTested}
-use Rattle.run.specs.declared.Run.{Run}
-use Rattle.run.specs.declared.Step.{Step}
 use Rattle.run.specs.declared.Stepped.{Stepped}
-use Rattle.run_bytes.specs.RunBytes.{runBytes}
 use Rattle.answer_bytes.specs.Answers.{answerNumber}
-use Rattle.byte_calls.specs.TestsAndWrites.{leaves, stepTests, runFor}
-use Rattle.byte_calls.proofs.Answering.{refused-last, refused-leaves}
+use Rattle.byte_calls.specs.TestsAndWrites.{stepTests, runFor}
+use Rattle.byte_calls.proofs.Answering.{refused-last, outside-leaves, refused-leaves}
 use Rattle.byte_calls.proofs.runs.step_on.Statement.{statement}
 use Rattle.byte_calls.proofs.runs.step_on.Tie as tie
 
@@ -44,7 +41,7 @@ unfolding stepTests
 returns-2 c =
     let l = sym (c .before .before .before .before .before .is-letter .ensures) ∙ not-false (c .before .before .before .before .before .is-letter .result) (c .before .before .before .before .if1 .left) in
     let w = sym (c .before .numbers-wrong .ensures) ∙ c .if2 .taken in
-    (first-here (given run-outside _) _ w ∙ sym (first-next (given line-wrong _) _ (ap not l)), refused-leaves 10 10 _ _ refl (λ z. omega arith))
+    (first-here (given run-outside _) _ w ∙ sym (first-next (given line-wrong _) _ (ap not l)), outside-leaves _ _)
 
 read-run-requires : tie.Need-read-run-requires
 read-run-requires c κs = let s = sound _ (c .before .before .before .before .before .before .before .before .pre .0) in (s .nodes-high, omega arith)
@@ -66,15 +63,14 @@ unfolding stepTests
 returns-3 c =
     let a = c .before .before .before .before .before .before .before .before .before .before .before .before .before .before .before .args in
     let l = sym (c .before .before .before .before .before .before .before .before .before .before .before .before .before .is-letter .ensures) ∙ not-false (c .before .before .before .before .before .before .before .before .before .before .before .before .before .is-letter .result) (c .before .before .before .before .before .before .before .before .before .before .before .before .if1 .left) in
-    let w = sym (c .before .before .before .before .before .before .before .before .before .numbers-wrong .ensures) ∙ c .before .before .before .before .before .before .before .before .if2 .left in
+    let right = sym (c .before .before .before .before .before .before .before .before .before .numbers-wrong .ensures) ∙ c .before .before .before .before .before .before .before .before .if2 .left in
     let x : Stepped = stepTested (a .plan) (runFor (a .plan) (now (a .run))) (stepBy (a .letter) (a .number)) in
     let d : c .before .before .before .step-tested .result ≡ x =
-    c .before .before .before .step-tested .ensures
-    ∙ ap (λ (r : Run). stepTested (a .plan) r (c .before .before .before .before .step-by .result)) (c .before .before .before .before .before .before .read-run .ensures)
-    ∙ ap (λ (s : Step). stepTested (a .plan) (runFor (a .plan) (now (a .run))) s) (c .before .before .before .before .step-by .ensures) in
-    let m = c .before .before .write-done .ensures .0 ∙ ap (λ (y : Stepped). answerNumber (y .answer)) d in (
-      m ∙ refused-last (answerNumber (x .answer)) ∙ sym (first-next (given line-wrong _) _ (ap not l) ∙ first-next (given run-outside _) _ w),
-      c .before .before .write-done .ensures .1 ∙ ap (λ (y : Stepped). leaves (c .before .before .write-done .result) (runBytes (a .plan .nodes .0) (y .run) (now (a .run))) (now (a .run))) d,
+    rw (c .before .before .before .step-tested .ensures, c .before .before .before .before .before .before .read-run .ensures, c .before .before .before .before .step-by .ensures) in
+    let w = c .before .before .write-done in
+    let m : w .result ≡ answerNumber (x .answer) = rw (w .ensures .0, d) in (
+      m ∙ refused-last (answerNumber (x .answer)) ∙ sym (first-next (given line-wrong _) _ (ap not l) ∙ first-next (given run-outside _) _ right),
+      rw (w .ensures .1, d),
     )
 
 pub step-on-spec : {M : Type 1} → statement M

@@ -1,6 +1,5 @@
 -- 10, else the shown run's own answer at the place that was read.
-use mathlib.Core.Path.{_≡_, refl, sym, ap, _∙_}
-use native.Mathlib.Omega.{arith}
+use mathlib.Core.Path.{_≡_, sym, _∙_}
 use borrow.Author.Needs.{needs}
 use denote.Ref.{now}
 use Rattle.laws.proofs.Rows.{first-here, first-next}
@@ -9,12 +8,9 @@ use Rattle.plan.proofs.Sound.{sound}
 use Rattle.plan.specs.Refusals.{run-outside}
 use Rattle.shown.specs.Shown.{givenOf}
 use Rattle.shown.specs.declared.Given.{Given}
-use Rattle.shown.specs.declared.Place.{Place}
 use Rattle.answer_bytes.specs.Answers.{nextNumber}
-use Rattle.answer_bytes.specs.Forms.{nextBytes}
-use Rattle.answer_bytes.specs.Places.{placeBytes}
-use Rattle.byte_calls.specs.TestsAndWrites.{leaves, placeFor, nextTests}
-use Rattle.byte_calls.proofs.Answering.{refused-last, refused-leaves}
+use Rattle.byte_calls.specs.TestsAndWrites.{placeFor, nextTests}
+use Rattle.byte_calls.proofs.Answering.{refused-last, outside-leaves}
 use Rattle.byte_calls.proofs.shown_runs.next_on.Statement.{statement}
 use Rattle.byte_calls.proofs.shown_runs.next_on.Tie as tie
 
@@ -29,7 +25,7 @@ same-length c = search needs
 
 returns : tie.Need-returns
 unfolding nextTests
-returns c = (first-here (given run-outside _) _ (sym (c .before .place-wrong .ensures) ∙ c .if1 .taken), (refused-leaves 10 10 _ _ refl (λ z. omega arith), refused-leaves 10 10 _ _ refl (λ z. omega arith)))
+returns c = (first-here (given run-outside _) _ (sym (c .before .place-wrong .ensures) ∙ c .if1 .taken), (outside-leaves _ _, outside-leaves _ _))
 
 read-place-requires : tie.Need-read-place-requires
 read-place-requires c κs = (sound _ (c .before .before .before .before .before .before .before .pre .0) .nodes-high, c .before .before .before .before .before .before .before .pre .1 .0)
@@ -53,12 +49,12 @@ returns-2 c =
     let b = now (a .place) in
     let x : Given = givenOf (a .plan) (placeFor (a .plan) b) in
     let g = c .before .before .before .before .write-given in
-    let d : c .before .before .before .before .before .next-shown .result ≡ x = c .before .before .before .before .before .next-shown .ensures ∙ ap (λ (q : Place). givenOf (a .plan) q) (c .before .before .before .before .before .before .before .before .read-place .ensures) in
-    let m = g .ensures .0 ∙ ap (λ (y : Given). nextNumber (y .next)) d in (
+    let d : c .before .before .before .before .before .next-shown .result ≡ x = rw (c .before .before .before .before .before .next-shown .ensures, c .before .before .before .before .before .before .before .before .read-place .ensures) in
+    let m : g .result ≡ nextNumber (x .next) = rw (g .ensures .0, d) in (
       m ∙ refused-last (nextNumber (x .next)) ∙ sym (first-next (given run-outside _) _ (sym (c .before .before .before .before .before .before .before .before .before .before .before .place-wrong .ensures) ∙ c .before .before .before .before .before .before .before .before .before .before .if1 .left)),
       (
-        g .ensures .1 .0 ∙ ap (λ (y : Given). leaves (g .result) (placeBytes (a .plan .nodes .0) (y .place) b) b) d,
-        g .ensures .1 .1 ∙ ap (λ (y : Given). leaves (g .result) (nextBytes (y .next) (now (a .step))) (now (a .step))) d,
+        rw (g .ensures .1 .0, d),
+        rw (g .ensures .1 .1, d),
       ),
     )
 
