@@ -28,11 +28,11 @@ spelled line (suc n) = spelled line n * 10 + (byteOf line (2 + n) - 48)
 abbrev pub digitCount : List ℕ → ℕ
 digitCount line = length line - 3
 
--- The line has the shape of a step line: a letter D, T or S, one blank, a number, a newline at the end.
--- The number: digits alone, at least one, and no 0 in front of others.
+-- One of the letters D, T and S.
 unfoldable pub isLetter : ℕ → Bool
 isLetter b = eqb b 68 || eqb b 84 || eqb b 83
 
+-- The line has the shape of a step line: a letter, one blank, digits (at least one, and no 0 in front of others), a newline at the end.
 unfoldable pub lineShaped : List ℕ → Bool
 lineShaped line =
     leb 4 (length line)
