@@ -4,7 +4,7 @@ use mathlib.Core.Path.{_≡_, refl, sym, _∙_}
 use mathlib.Core.Bool.{Bool, true, false, cond, not}
 use mathlib.Core.List.{List, [], _∷_}
 use lib.Dec.{eqb}
-use borrow.Author.Tests.{eq-eqb, ne-eqb, eqb-true}
+use borrow.Author.Tests.{ne-eqb, eqb-true}
 use Rattle.laws.specs.Row.{given, firstOf}
 use Rattle.laws.proofs.Rows.{first-here, first-next}
 use Rattle.plan.specs.declared.Plan.{Plan}
@@ -43,13 +43,13 @@ unfolding leaves
 outside-leaves written before = refl
 
 -- a refused call leaves a buffer as it was, a done call what it wrote
-pub refused-leaves : (n answer : ℕ) (written before : List ℕ) → n ≡ answer → (n ≡ 0 → ⊥) → before ≡ leaves answer written before
+pub refused-leaves : (answer : ℕ) (written before : List ℕ) → (answer ≡ 0 → ⊥) → before ≡ leaves answer written before
 unfolding leaves
-refused-leaves n answer written before e z = rw (ne-eqb answer 0 (λ q. z (e ∙ q)))
+refused-leaves answer written before refused = rw (ne-eqb answer 0 refused)
 
-pub done-leaves : (answer : ℕ) (written before after : List ℕ) → 0 ≡ answer → after ≡ written → after ≡ leaves answer written before
+pub done-leaves : (written before after : List ℕ) → after ≡ written → after ≡ leaves 0 written before
 unfolding leaves
-done-leaves answer written before after e p = rw (eq-eqb answer 0 (sym e)) p
+done-leaves written before after p = p
 
 -- what is written either way is left either way
 pub same-leaves : (answer : ℕ) (before : List ℕ) → before ≡ leaves answer before before

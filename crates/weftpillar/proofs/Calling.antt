@@ -26,7 +26,7 @@ module _ (wrong : Bool) (rows : List Row) where
   pub lengths-refuse : wrong ≡ true → (written before : List ℕ) → Ends 255 written before before
   lengths-refuse w written before =
       let e = first-here (given another-length wrong) rows w in
-      (e, refused-leaves 255 _ written before e (λ z. omega arith))
+      (e, refused-leaves _ written before (λ z. let none : _≡_ {A = ℕ} 255 0 = e ∙ z in omega arith))
 
   pub rows-answer : wrong ≡ false → (n : ℕ) → n ≡ firstOf rows → (written before after : List ℕ) → after ≡ leaves n written before → Ends n written before after
   rows-answer w n e written before after left =
@@ -46,7 +46,7 @@ module _ (wrong : Bool) (f : List ℕ) (rows : Plan → List Row) where
   unfolding answered
   file-refuses w n e z written before =
       let first = e ∙ first-here (refusedBy (fileRefusal f)) (rows (planIn f)) (ap not (ne-eqb (fileRefusal f) 0 (λ q. z (e ∙ q)))) in
-      rows-answer wrong _ w n first written before before (refused-leaves n n written before refl z)
+      rows-answer wrong _ w n first written before before (refused-leaves n written before z)
 
   -- by the rows of the plan that was taken from the file, with what it writes
   pub plan-answers : wrong ≡ false → (t : ℕ) (P : Plan) → t ≡ fileRefusal f → t ≡ 0 → P ≡ planIn f → (n : ℕ) → n ≡ firstOf (rows P) → (written : Plan → List ℕ) (before after : List ℕ) → after ≡ leaves n (written P) before → FileEnds n (written (planIn f)) before after

@@ -1,7 +1,7 @@
 -- Refused by the length, else all 32 places are written.
 use mathlib.Core.Bool.{not}
 use mathlib.Core.List.{[]}
-use mathlib.Core.Path.{refl, sym, ap}
+use mathlib.Core.Path.{sym, ap}
 use borrow.Author.Needs.{needs}
 use borrow.Author.Tests.{eq-eqb, ne-eqb}
 use Rattle.byte_calls.proofs.Answering.{none-given, done-leaves}
@@ -25,7 +25,7 @@ same-length c = search needs
 
 returns-2 : tie.Need-returns-2
 unfolding freshAnswer freshLeaves
-returns-2 c = rows-answer _ [] (ap not (eq-eqb _ 291 (c .before .before .before .before .before .if1 .left))) 0 (sym none-given) _ _ _ (done-leaves 0 _ _ _ refl (rw (c .before .before .write-run .ensures, c .before .before .before .fresh .ensures)))
+returns-2 c = rows-answer _ [] (ap not (eq-eqb _ 291 (c .before .before .before .before .before .if1 .left))) 0 (sym none-given) _ _ _ (done-leaves _ _ _ (rw (c .before .before .write-run .ensures, c .before .before .before .fresh .ensures)))
 
 pub weftpillar-fresh-spec : {M : Type 1} → statement M
 weftpillar-fresh-spec =

@@ -1,7 +1,7 @@
 -- Refused by the length, else all 32 places and the mark are written.
 use mathlib.Core.Bool.{not}
 use mathlib.Core.List.{[]}
-use mathlib.Core.Path.{refl, sym, ap}
+use mathlib.Core.Path.{sym, ap}
 use borrow.Author.Needs.{needs}
 use borrow.Author.Tests.{eq-eqb, ne-eqb}
 use Rattle.byte_calls.proofs.Answering.{none-given, done-leaves}
@@ -25,7 +25,7 @@ same-length c = search needs
 
 returns-2 : tie.Need-returns-2
 unfolding freshPlaceAnswer freshPlaceLeaves
-returns-2 c = rows-answer _ [] (ap not (eq-eqb _ 292 (c .before .before .before .before .before .if1 .left))) 0 (sym none-given) _ _ _ (done-leaves 0 _ _ _ refl (rw (c .before .before .write-place .ensures, c .before .before .before .fresh-place .ensures)))
+returns-2 c = rows-answer _ [] (ap not (eq-eqb _ 292 (c .before .before .before .before .before .if1 .left))) 0 (sym none-given) _ _ _ (done-leaves _ _ _ (rw (c .before .before .write-place .ensures, c .before .before .before .fresh-place .ensures)))
 
 pub weftpillar-fresh-place-spec : {M : Type 1} → statement M
 weftpillar-fresh-place-spec =

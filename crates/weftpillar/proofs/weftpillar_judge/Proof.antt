@@ -1,7 +1,7 @@
 -- Refused by the length or the reader, else the verdict of the plan in the file is written.
 use mathlib.Core.Bool.{not}
 use mathlib.Core.List.{[]}
-use mathlib.Core.Path.{refl, sym, ap, _∙_}
+use mathlib.Core.Path.{sym, ap, _∙_}
 use borrow.Author.Needs.{needs}
 use borrow.Author.Tests.{eq-eqb, ne-eqb}
 use Rattle.rules.specs.Rules.{verdictOf}
@@ -37,7 +37,7 @@ unfolding judgeAnswer judgeLeaves
 returns-3 c =
     let t = c .before .before .before .before .before .before .before .taken-from in
     plan-answers _ _ (λ P. []) (ap not (eq-eqb _ 51 (c .before .before .before .before .before .before .before .before .if1 .left))) _ _ (t .ensures .0) (c .before .before .before .before .before .if2 .left) (t .ensures .1) 0 (sym none-given) (λ P. verdictBytes (verdictOf P)) _ _
-    (done-leaves 0 _ _ _ refl (c .before .before .write-verdict .ensures ∙ ap verdictBytes (c .before .before .before .verdict-by .ensures)))
+    (done-leaves _ _ _ (c .before .before .write-verdict .ensures ∙ ap verdictBytes (c .before .before .before .verdict-by .ensures)))
 
 pub weftpillar-judge-spec : {M : Type 1} → statement M
 weftpillar-judge-spec =

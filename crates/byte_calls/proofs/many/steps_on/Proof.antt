@@ -1,5 +1,5 @@
 -- 10 once; a run that it lets through is in range, so that all steps can be asked.
-use mathlib.Core.Path.{refl, sym, ap, _∙_}
+use mathlib.Core.Path.{sym, ap, _∙_}
 use native.Mathlib.Omega.{arith}
 use lib.ListN.{length}
 use borrow.Author.Needs.{needs}
@@ -51,8 +51,8 @@ returns-2 c =
     let r = c .before .before .before .before .before .before .before .before .read-run .ensures in (
       inside-answers _ _ (sym (c .before .before .before .before .before .before .before .before .before .before .before .before .run-outside .ensures) ∙ c .before .before .before .before .before .before .before .before .before .before .before .if1 .left),
       (
-        done-leaves 0 _ _ _ refl (rw (c .before .before .write-run .ensures, d .ensures .0, r)),
-        done-leaves 0 _ _ _ refl (rw (d .ensures .1, r)),
+        done-leaves _ _ _ (rw (c .before .before .write-run .ensures, d .ensures .0, r)),
+        done-leaves _ _ _ (rw (d .ensures .1, r)),
       ),
     )
 

@@ -1,5 +1,5 @@
 -- 10, else the form of the out-of-step test's answer.
-use mathlib.Core.Path.{refl, sym, _∙_}
+use mathlib.Core.Path.{sym, _∙_}
 use native.Mathlib.Omega.{arith}
 use borrow.Author.Needs.{needs}
 use Rattle.plan.proofs.Sound.{sound}
@@ -31,7 +31,7 @@ same-length c = search needs
 returns-2 : tie.Need-returns-2
 returns-2 c = (
   inside-answers _ _ (sym (c .before .before .before .before .before .before .before .before .run-outside .ensures) ∙ c .before .before .before .before .before .before .before .if1 .left),
-  done-leaves 0 _ _ _ refl (rw (c .before .before .write-apart .ensures, c .before .before .before .apart-tested .ensures, c .before .before .before .before .before .read-run .ensures)),
+  done-leaves _ _ _ (rw (c .before .before .write-apart .ensures, c .before .before .before .apart-tested .ensures, c .before .before .before .before .before .read-run .ensures)),
 )
 
 pub apart-on-spec : {M : Type 1} → statement M

@@ -1,6 +1,6 @@
 -- 19, 10, else the step's own answer: each is the first row that is given.
 use mathlib.Core.Bool.{not}
-use mathlib.Core.Path.{_≡_, refl, sym, ap, _∙_}
+use mathlib.Core.Path.{_≡_, sym, ap, _∙_}
 use native.Mathlib.Omega.{arith}
 use borrow.Author.Needs.{needs}
 use borrow.Author.Tests.{not-true, not-false}
@@ -25,7 +25,7 @@ returns : tie.Need-returns
 unfolding stepTests
 returns c =
     let l = sym (c .before .is-letter .ensures) ∙ not-true (c .before .is-letter .result) (c .if1 .taken) in
-    (first-here (given line-wrong _) _ (ap not l), refused-leaves 19 19 _ _ refl (λ z. omega arith))
+    (first-here (given line-wrong _) _ (ap not l), refused-leaves 19 _ _ (λ z. omega arith))
 
 cast-nodes : tie.Need-cast-nodes
 cast-nodes c = search needs

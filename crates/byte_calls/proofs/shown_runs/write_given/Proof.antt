@@ -1,5 +1,5 @@
 -- Without a step both buffers stay, with one both are written.
-use mathlib.Core.Path.{refl, sym, _∙_}
+use mathlib.Core.Path.{sym, _∙_}
 use borrow.Author.Needs.{needs}
 use Rattle.byte_calls.proofs.Answering.{refused-leaves, done-leaves}
 use Rattle.byte_calls.proofs.shown_runs.write_given.Statement.{statement}
@@ -9,7 +9,7 @@ next-number-requires : tie.Need-next-number-requires
 next-number-requires c κs = search needs
 
 returns : tie.Need-returns
-returns c = (c .before .next-number .ensures, (refused-leaves _ _ _ _ refl (c .if1 .taken), refused-leaves _ _ _ _ refl (c .if1 .taken)))
+returns c = (c .before .next-number .ensures, (refused-leaves _ _ _ (c .if1 .taken), refused-leaves _ _ _ (c .if1 .taken)))
 
 write-place-requires : tie.Need-write-place-requires
 write-place-requires c κs = (c .before .before .before .before .before .before .pre .0, c .before .before .before .before .before .before .pre .1)
@@ -24,7 +24,7 @@ same-length-2 : tie.Need-same-length-2
 same-length-2 c = search needs
 
 returns-2 : tie.Need-returns-2
-returns-2 c = (sym (c .before .before .before .before .before .before .before .before .before .if1 .left) ∙ c .before .before .before .before .before .before .before .before .before .before .next-number .ensures, (done-leaves 0 _ _ _ refl (c .before .before .before .before .before .before .write-place .ensures), done-leaves 0 _ _ _ refl (c .before .before .write-next .ensures)))
+returns-2 c = (sym (c .before .before .before .before .before .before .before .before .before .if1 .left) ∙ c .before .before .before .before .before .before .before .before .before .before .next-number .ensures, (done-leaves _ _ _ (c .before .before .before .before .before .before .write-place .ensures), done-leaves _ _ _ (c .before .before .write-next .ensures)))
 
 pub write-given-spec : {M : Type 1} → statement M
 write-given-spec =
