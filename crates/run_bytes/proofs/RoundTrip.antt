@@ -1,15 +1,13 @@
--- Reading what was written gives the same run, and writing what was read gives the same bytes.
-use Prim.Native.Nat.{ℕ, zero, suc, _+_, _*_, _/_, _%_, _≤_, _<_}
-use mathlib.Core.Path.{_≡_, refl, sym, ap, _∙_}
+-- Reading what was written gives the same run: each node and the last message is read from bytes of its own, where it was written.
+use Prim.Native.Nat.{ℕ, zero, suc, _+_, _*_, _≤_, _<_}
+use mathlib.Core.Path.{_≡_, refl, sym, _∙_}
 use mathlib.Core.Bool.{Bool, true, false, not}
-use mathlib.Core.List.{List, [], _∷_}
+use mathlib.Core.List.{List}
 use native.Mathlib.Omega.{arith}
-use native.Mathlib.Decide.{ℕ-discrete}
-use lib.ListN.{length, getD, replicate, length-replicate}
-use lib.Seq.{sets, length-sets}
-use lib.Dec.{eqb, ltb}
-use borrow.Author.Tests.{ltb-false, eq-eqb, ne-eqb}
-use Rattle.laws.proofs.Bools.{or-false-left, or-false-right}
+use native.Mathlib.Decide.{ℕ-discrete, decLt}
+use lib.ListN.{length, getD, replicate, length-replicate, getD-replicate}
+use lib.Seq.{sets, length-sets, ext-getD}
+use lib.Dec.{eqb}
 use Rattle.plan_file.specs.File.{byteAt, be16Of, be32Of}
 use Rattle.run.specs.declared.Mode.{Mode}
 use Rattle.run.specs.declared.Mode.the-variants.{Waiting, AboutToSend, Sending}
@@ -18,11 +16,9 @@ use Rattle.run.specs.declared.Last.the-variants.{At, Nothing}
 use Rattle.run.specs.declared.NodeState.{NodeState}
 use Rattle.run.specs.declared.Run.{Run}
 use Rattle.run.specs.State.{freshNode, node}
-use Rattle.laws.specs.Below.{anyBelow}
-use Rattle.laws.proofs.Belows.{any-not}
-use Rattle.laws.proofs.Overs.{getD-over}
-use Rattle.run_bytes.specs.RunBytes.{modeByte, modeIn, flagByte, nodeBytes, lastBytes, nodeIn, lastIn, runIn, nodesBytes, runBytes, nodeWrong, numbersWrong}
-use Rattle.run_bytes.proofs.Sets.{getD-sets-before, getD-sets-after, getD-sets-in, Stands, sets-same}
+use Rattle.laws.proofs.Overs.{getD-over, getD-past, length-over}
+use Rattle.run_bytes.specs.RunBytes.{modeByte, modeIn, flagByte, nodeBytes, lastBytes, nodeIn, lastIn, runIn, nodesBytes, runBytes}
+use Rattle.run_bytes.proofs.Sets.{getD-sets-before, getD-sets-in}
 
 -- The numbers of a node fit their types.
 pub record NodeFits (a : NodeState) : Type 0 where
@@ -33,6 +29,13 @@ pub record NodeFits (a : NodeState) : Type 0 where
 abbrev pub LastFits : Last → Type 0
 LastFits Nothing = Unit {0}
 LastFits (At s) = s .0 < 65536
+
+-- A run that bytes can hold for N nodes: numbers that fit their types, and fresh places from N on.
+pub record Holdable (N : ℕ) (r : Run) : Type 0 where
+  pub places : length (r .nodes) ≡ 32
+  pub nodes-fit : (i : ℕ) → i < N → NodeFits (node r i)
+  pub rest-fresh : (i : ℕ) → N ≤ i → i < 32 → node r i ≡ freshNode
+  pub last-fits : LastFits (r .last)
 
 mode-back : (m : Mode) → modeIn (modeByte m) ≡ m
 unfolding modeIn
@@ -48,6 +51,21 @@ flag-back false = refl
 pub node-read : (N : ℕ) (l : List ℕ) → N ≤ 32 → (i : ℕ) → i < N → node (runIn N l) i ≡ nodeIn l (9 * i)
 unfolding runIn
 node-read N l few i h = getD-over N (λ k a. nodeIn l (9 * k)) (replicate 32 freshNode) i freshNode h (omega (arith, length-replicate 32 freshNode))
+
+-- places from N on are read as fresh
+pub fresh-read : (N : ℕ) (l : List ℕ) (i : ℕ) → N ≤ i → i < 32 → node (runIn N l) i ≡ freshNode
+unfolding runIn
+fresh-read N l i past h = getD-past N (λ k a. nodeIn l (9 * k)) (replicate 32 freshNode) i freshNode past ∙ getD-replicate 32 i freshNode freshNode h
+
+pub length-read : (N : ℕ) (l : List ℕ) → length (runIn N l .nodes) ≡ 32
+unfolding runIn
+length-read N l = length-over N (λ k a. nodeIn l (9 * k)) (replicate 32 freshNode) ∙ length-replicate 32 freshNode
+
+-- two runs with the same 32 places and the same last message are one
+same-run : (r s : Run) → length (r .nodes) ≡ 32 → length (s .nodes) ≡ 32 → ((i : ℕ) → i < 32 → node r i ≡ node s i) → r .last ≡ s .last → r ≡ s
+same-run r s m n nodes last =
+    let all = ext-getD freshNode (r .nodes) (s .nodes) (m ∙ sym n) (λ i h. nodes i (omega arith)) in
+    λ j. record { nodes = all j; last = last j }
 
 -- a node read where it was written
 node-back : (l : List ℕ) (at : ℕ) (a : NodeState) → at + 9 ≤ length l → NodeFits a → nodeIn (sets l at (nodeBytes a)) at ≡ a
@@ -68,10 +86,26 @@ unfolding nodeIn be16Of be32Of
 node-same l m at h =
     rw (h at (omega arith) (omega arith), h (at + 1) (omega arith) (omega arith), h (at + 1 + 1) (omega arith) (omega arith), h (at + 3) (omega arith) (omega arith), h (at + 3 + 1) (omega arith) (omega arith), h (at + 3 + 2) (omega arith) (omega arith), h (at + 3 + 3) (omega arith) (omega arith), h (at + 7) (omega arith) (omega arith), h (at + 8) (omega arith) (omega arith))
 
+last-same : (N : ℕ) (l m : List ℕ) → ((j : ℕ) → j < 291 → byteAt l j ≡ byteAt m j) → runIn N l .last ≡ runIn N m .last
+unfolding runIn lastIn be16Of
+last-same N l m h = rw (h 288 (omega arith), h 289 (omega arith), h 290 (omega arith))
+
+-- A run is read from its own 291 bytes.
+pub run-same : (N : ℕ) (l m : List ℕ) → N ≤ 32 → ((j : ℕ) → j < 291 → byteAt l j ≡ byteAt m j) → runIn N l ≡ runIn N m
+run-same N l m few h = same-run (runIn N l) (runIn N m) (length-read N l) (length-read N m) (λ i b. place i b (decLt i N)) (last-same N l m h)
+  where
+    place : (i : ℕ) → i < 32 → Dec (i < N) → node (runIn N l) i ≡ node (runIn N m) i
+    place i b (yes k) = node-read N l few i k ∙ node-same l m (9 * i) (λ j low high. h j (omega arith)) ∙ sym (node-read N m few i k)
+    place i b (no k) = fresh-read N l i (omega arith) b ∙ sym (fresh-read N m i (omega arith) b)
+
 length-nodes : (n : ℕ) (r : Run) (bytes : List ℕ) → length (nodesBytes n r bytes) ≡ length bytes
 unfolding nodesBytes
 length-nodes zero r bytes = refl
 length-nodes (suc n) r bytes = length-sets (nodesBytes n r bytes) (9 * n) (nodeBytes (node r n)) ∙ length-nodes n r bytes
+
+pub length-run : (N : ℕ) (r : Run) (bytes : List ℕ) → length (runBytes N r bytes) ≡ length bytes
+unfolding runBytes
+length-run N r bytes = length-sets (nodesBytes N r bytes) 288 (lastBytes (r .last)) ∙ length-nodes N r bytes
 
 -- each of the first n nodes is read where it was written
 nodes-back : (n : ℕ) (r : Run) (bytes : List ℕ) → 9 * n ≤ length bytes → ((i : ℕ) → i < n → NodeFits (node r i)) → (i : ℕ) → i < n → nodeIn (nodesBytes n r bytes) (9 * i) ≡ node r i
@@ -108,71 +142,11 @@ module _ (N : ℕ) (r : Run) (bytes : List ℕ) (few : N ≤ 32) (long : 291 ≤
   unfolding runIn runBytes
   read-written-last f = last-back (nodesBytes N r bytes) (r .last) (omega (arith, length-nodes N r bytes)) f
 
-mode-kept : (b : ℕ) → ltb 2 b ≡ false → modeByte (modeIn b) ≡ b
-unfolding modeIn
-mode-kept zero h = refl
-mode-kept (suc zero) h = refl
-mode-kept (suc (suc zero)) h = refl
-mode-kept (suc (suc (suc b))) h = absurd (omega (arith, ltb-false 2 (suc (suc (suc b))) h))
-
-flag-kept : (b : ℕ) → ltb 1 b ≡ false → flagByte (not (eqb b 0)) ≡ b
-flag-kept zero h = refl
-flag-kept (suc zero) h = refl
-flag-kept (suc (suc b)) h = absurd (omega (arith, ltb-false 1 (suc (suc b)) h))
-
--- Each number of a list is a byte.
-abbrev pub AllBytes : List ℕ → Type 0
-AllBytes l = (k : ℕ) → byteAt l k < 256
-
--- a node written where it was read
-node-kept : (l : List ℕ) (at : ℕ) → AllBytes l → nodeWrong l at ≡ false → sets l at (nodeBytes (nodeIn l at)) ≡ l
-unfolding nodeIn nodeBytes nodeWrong be16Of be32Of
-node-kept l at b h =
-    let same : (j k : ℕ) → j ≡ k → byteAt l j ≡ byteAt l k = λ j k e. ap (λ (n : ℕ). byteAt l n) e in
-    let s₁ = same (at + 1) (suc at) (omega arith) in
-    let s₂ = same (at + 1 + 1) (suc (suc at)) (omega arith) in
-    let s₃ = same (at + 3) (suc (suc (suc at))) (omega arith) in
-    let s₄ = same (at + 3 + 1) (suc (suc (suc (suc at)))) (omega arith) in
-    let s₅ = same (at + 3 + 2) (suc (suc (suc (suc (suc at))))) (omega arith) in
-    let s₆ = same (at + 3 + 3) (suc (suc (suc (suc (suc (suc at)))))) (omega arith) in
-    let s₇ = same (at + 7) (suc (suc (suc (suc (suc (suc (suc at))))))) (omega arith) in
-    let s₈ = same (at + 8) (suc (suc (suc (suc (suc (suc (suc (suc at)))))))) (omega arith) in
-    let b₂ = b (at + 1 + 1) in
-    let b₄ = b (at + 3 + 1) in
-    let b₅ = b (at + 3 + 2) in
-    let b₆ = b (at + 3 + 3) in
-    let mode = mode-kept (byteAt l (at + 7)) (or-false-left (ltb 2 (byteAt l (at + 7))) (ltb 1 (byteAt l (at + 8))) h) in
-    let flag = flag-kept (byteAt l (at + 8)) (or-false-right (ltb 2 (byteAt l (at + 7))) (ltb 1 (byteAt l (at + 8))) h) in
-    sets-same l 0 at (nodeBytes (nodeIn l at)) (refl, (omega arith, (omega arith, (omega arith, (omega arith, (omega arith, (omega arith, (mode ∙ s₇, (flag ∙ s₈, tt)))))))))
-
-nodes-kept : (n : ℕ) (r : Run) (l : List ℕ) → AllBytes l → ((i : ℕ) → i < n → nodeWrong l (9 * i) ≡ false) → ((i : ℕ) → i < n → node r i ≡ nodeIn l (9 * i)) → nodesBytes n r l ≡ l
-unfolding nodesBytes
-nodes-kept zero r l b h e = refl
-nodes-kept (suc n) r l b h e =
-    let before : nodesBytes n r l ≡ l = nodes-kept n r l b (λ i k. h i (omega arith)) (λ i k. e i (omega arith)) in
-    rw (before, e n (omega arith)) (node-kept l (9 * n) b (h n (omega arith)))
-
--- Where none was sent, two zeros follow.
-abbrev pub NonePlain : List ℕ → Type 0
-NonePlain l = byteAt l 288 ≡ 0 → be16Of l 289 ≡ 0
-
-last-kept : (l : List ℕ) → AllBytes l → ltb 1 (byteAt l 288) ≡ false → NonePlain l → sets l 288 (lastBytes (lastIn l)) ≡ l
-unfolding lastIn lastBytes be16Of
-last-kept l b h p = go (ℕ-discrete (byteAt l 288) 0)
-  where
-    go : Dec (byteAt l 288 ≡ 0) → sets l 288 (lastBytes (lastIn l)) ≡ l
-    go (yes e) =
-        let none = p e in
-        rw (lastIn, eq-eqb _ 0 e) (sets-same l 0 288 (lastBytes Nothing) (sym e, (omega arith, (omega arith, tt))))
-    go (no e) =
-        let one : 1 ≡ byteAt l 288 = omega (arith, ltb-false 1 (byteAt l 288) h) in
-        let b₂ = b 290 in
-        rw (lastIn, ne-eqb _ 0 e) (sets-same l 0 288 (lastBytes (At (record { 0 = be16Of l 289 }))) (one, (omega arith, (omega arith, tt))))
-
--- Writing what was read gives the bytes that were there.
-pub written-read : (N : ℕ) (l : List ℕ) → N ≤ 32 → AllBytes l → numbersWrong N l ≡ false → NonePlain l → runBytes N (runIn N l) l ≡ l
-unfolding runBytes runIn numbersWrong
-written-read N l few b h p =
-    let wrong : ℕ → Bool = λ k. nodeWrong l (9 * k) in
-    let right = any-not N wrong (or-false-left (anyBelow N wrong) (ltb 1 (byteAt l 288)) h) in
-    rw (runBytes, nodes-kept N (runIn N l) l b right (node-read N l few)) (last-kept l b (or-false-right (anyBelow N wrong) (ltb 1 (byteAt l 288)) h) p)
+  -- A run that bytes can hold is read back whole.
+  pub read-written-run : Holdable N r → runIn N (runBytes N r bytes) ≡ r
+  read-written-run w =
+      same-run (runIn N (runBytes N r bytes)) r (length-read N (runBytes N r bytes)) (w .places) (λ i b. place i b (decLt i N)) (read-written-last (w .last-fits))
+    where
+      place : (i : ℕ) → i < 32 → Dec (i < N) → node (runIn N (runBytes N r bytes)) i ≡ node r i
+      place i b (yes k) = read-written-node (w .nodes-fit) i k
+      place i b (no k) = fresh-read N (runBytes N r bytes) i (omega arith) b ∙ sym (w .rest-fresh i (omega arith) b)

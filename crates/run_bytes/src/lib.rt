@@ -4,7 +4,7 @@ ghost use Prim.Native.Nat.{_+_, _*_, _≤_};
 ghost use lib.ListN.{length, set};
 ghost use lib.Seq.{sets};
 ghost use Rattle.run_bytes.specs.Numbers.{be16Bytes, be32Bytes, be64Bytes};
-ghost use Rattle.run_bytes.specs.RunBytes.{modeByte, modeIn, flagByte, nodeBytes, lastBytes, nodeIn, lastIn, runIn, nodesBytes, runBytes, nodeWrong, numbersWrong};
+ghost use Rattle.run_bytes.specs.RunBytes.{modeByte, modeIn, flagByte, nodeBytes, lastBytes, nodeIn, lastIn, runIn, runBytes, nodeWrong, numbersWrong};
 use plan::Slot;
 use plan::Tick;
 use plan::Time;

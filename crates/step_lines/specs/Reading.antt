@@ -1,6 +1,6 @@
 -- A step line read byte by byte, with nothing kept of it but its letter and its number: what StepLine.antt says of the whole line, in one pass.
 use Prim.Native.Nat.{ℕ, _+_, _*_, _-_}
-use mathlib.Core.Bool.{cond, not, _&&_}
+use mathlib.Core.Bool.{Bool, cond, not, _&&_}
 use mathlib.Core.List.{List, foldl}
 use lib.Dec.{eqb, leb}
 use Rattle.plan.specs.Refusals.{line-wrong}
@@ -14,11 +14,14 @@ use Rattle.step_lines.specs.StepLine.{isDigit, isLetter, stepBy}
 abbrev pub withDigit : (n digit : ℕ) → ℕ
 withDigit n digit = n * 10 + (digit - 48)
 
--- A byte after a number: the newline, or a digit, which no 0 may precede and which may not lead above 4,294,967,295.
+-- A digit that may follow a number: no 0 may precede it, and it may not lead above 4,294,967,295.
+abbrev pub mayFollow : (n byte : ℕ) → Bool
+mayFollow n byte = isDigit byte && not (eqb n 0) && leb (withDigit n byte) 4294967295
+
+-- A byte after a number: the newline, or a digit that may follow it.
 abbrev pub numberAfter : (letter n byte : ℕ) → Reading
 numberAfter letter n byte =
-    cond (eqb byte 10) (Whole letter n)
-    (cond (isDigit byte && not (eqb n 0) && leb (withDigit n byte) 4294967295) (Number letter (withDigit n byte)) Wrong)
+    cond (eqb byte 10) (Whole letter n) (cond (mayFollow n byte) (Number letter (withDigit n byte)) Wrong)
 
 -- A line read so far, and one byte more.
 unfoldable pub readingAfter : Reading → (byte : ℕ) → Reading

@@ -1,107 +1,62 @@
--- What every call comes by: a plan that is taken passed 1 to 9, and the answer decides what is left in lent buffers.
+-- The three ways of a call: refused by a length, refused by the reader, and answered by the plan in the file; or, with no file,
+-- by a row of its own. The answer decides what is left in lent buffers.
 use Prim.Native.Nat.{ℕ}
 use mathlib.Core.Path.{_≡_, refl, sym, ap, _∙_}
-use mathlib.Core.Bool.{Bool, true, false, cond, not, _||_}
-use mathlib.Core.List.{List, [], _∷_}
-use lib.Dec.{eqb}
-use borrow.Author.Tests.{eq-eqb, ne-eqb, eqb-true, eqb-false}
+use mathlib.Core.Bool.{Bool, true, false, not}
+use mathlib.Core.List.{List, _∷_}
+use native.Mathlib.Omega.{arith}
+use borrow.Author.Tests.{eq-eqb, ne-eqb}
 use Rattle.laws.specs.Row.{Row, given, firstOf}
 use Rattle.laws.proofs.Rows.{first-here, first-next}
 use Rattle.plan.specs.declared.Plan.{Plan}
-use Rattle.plan.specs.Tested.{planNumber}
-use Rattle.plan_file.specs.File as file
-use Rattle.laws.proofs.Bools.{or-false-left, or-false-right, false-not-true}
-use Rattle.run.specs.declared.Reckoned.{Reckoned}
-use Rattle.run.specs.declared.Reckoned.the-variants as reckoned
 use Rattle.step_lines.specs.declared.Line.{Line}
 use Rattle.step_lines.specs.declared.Line.the-variants as line
-use Rattle.weftpillar.specs.Answers.{another-length, reckonedNumber, lineNumber, fileRefusal, planIn, refusedBy, answered, leaves}
-use Rattle.run.specs.State.{inRange}
-use Rattle.weftpillar.specs.Calls.{runFor, runWrong, runOutside}
-use Rattle.weftpillar.specs.Forms.{ticksBytes, lineBytes}
+use Rattle.answer_bytes.specs.Answers.{lineNumber}
+use Rattle.answer_bytes.specs.Forms.{lineBytes}
+use Rattle.byte_calls.specs.Taken.{fileRefusal, planIn}
+use Rattle.byte_calls.specs.TestsAndWrites.{refusedBy, leaves}
+use Rattle.byte_calls.proofs.Answering.{refused-leaves, same-leaves}
+use Rattle.weftpillar.specs.Answers.{another-length, answered}
 
--- 1 to 9 let a plan through whose file is taken
-pub taken-passes : (f : List ℕ) → fileRefusal f ≡ 0 → planNumber (planIn f) ≡ 0
-unfolding fileRefusal planIn file.readOf file.takenOf
-taken-passes f h = go (eqb (file.fileNumber f) 0) refl (eqb (planNumber (file.planOf f)) 0) refl
-  where
-    go : (a : Bool) → eqb (file.fileNumber f) 0 ≡ a → (b : Bool) → eqb (planNumber (file.planOf f)) 0 ≡ b → planNumber (planIn f) ≡ 0
-    go true p true q = rw (planIn, p, q) (eqb-true _ 0 q)
-    go true p false q = let z : planNumber (file.planOf f) ≡ 0 = rw (fileRefusal, p, q) at h in absurd (eqb-false _ 0 q z)
-    go false p b q = let z : file.fileNumber f ≡ 0 = rw (fileRefusal, p) at h in absurd (eqb-false _ 0 p z)
+-- A call whose first test is that of the lengths: what it answers, and what it leaves in a buffer.
+module _ (wrong : Bool) (rows : List Row) where
+  abbrev pub Ends : (n : ℕ) (written before after : List ℕ) → Type 0
+  Ends n written before after = (n ≡ firstOf (given another-length wrong ∷ rows)) × (after ≡ leaves (firstOf (given another-length wrong ∷ rows)) written before)
 
--- an answer that is a row: it is the first row's number, or the rest's
-pub refused-here : (n m : ℕ) (rows : List Row) → n ≡ m → (n ≡ 0 → ⊥) → n ≡ firstOf (refusedBy m ∷ rows)
-refused-here n m rows e z = e ∙ first-here (refusedBy m) rows (ap not (ne-eqb m 0 (λ q. z (e ∙ q))))
+  pub lengths-refuse : wrong ≡ true → (written before : List ℕ) → Ends 255 written before before
+  lengths-refuse w written before =
+      let e = first-here (given another-length wrong) rows w in
+      (e, refused-leaves _ written before (λ z. let none : _≡_ {A = ℕ} 255 0 = e ∙ z in omega arith))
 
-pub refused-next : (n m : ℕ) (rows : List Row) → n ≡ m → n ≡ 0 → firstOf (refusedBy m ∷ rows) ≡ firstOf rows
-refused-next n m rows e z = first-next (refusedBy m) rows (ap not (eq-eqb m 0 (sym e ∙ z)))
+  pub rows-answer : wrong ≡ false → (n : ℕ) → n ≡ firstOf rows → (written before after : List ℕ) → after ≡ leaves n written before → Ends n written before after
+  rows-answer w n e written before after left =
+      let a = e ∙ sym (first-next (given another-length wrong) rows w) in
+      (a, left ∙ ap (λ (m : ℕ). leaves m written before) a)
 
--- no row, no number
-pub none-given : firstOf [] ≡ 0
-unfolding firstOf
-none-given = refl
-
-pub refused-last : (m : ℕ) → m ≡ firstOf (refusedBy m ∷ [])
-unfolding firstOf
-refused-last m = go (eqb m 0) refl
-  where
-    go : (b : Bool) → eqb m 0 ≡ b → m ≡ cond (not (eqb m 0)) m 0
-    go true p = rw p (eqb-true m 0 p)
-    go false p = rw p
-
--- the three ways of a call on a plan file
+-- A call on a plan file: its rows are the reader's refusal, then those of the plan in the file.
 module _ (wrong : Bool) (f : List ℕ) (rows : Plan → List Row) where
-  pub by-length : wrong ≡ true → 255 ≡ answered wrong f rows
+  abbrev pub FileEnds : (n : ℕ) (written before after : List ℕ) → Type 0
+  FileEnds n written before after = (n ≡ answered wrong f rows) × (after ≡ leaves (answered wrong f rows) written before)
+
+  pub length-refuses : wrong ≡ true → (written before : List ℕ) → FileEnds 255 written before before
   unfolding answered
-  by-length w = first-here (given another-length wrong) _ w
+  length-refuses w written before = lengths-refuse wrong _ w written before
 
-  pub by-file : wrong ≡ false → (n : ℕ) → n ≡ fileRefusal f → (n ≡ 0 → ⊥) → n ≡ answered wrong f rows
+  pub file-refuses : wrong ≡ false → (n : ℕ) → n ≡ fileRefusal f → (n ≡ 0 → ⊥) → (written before : List ℕ) → FileEnds n written before before
   unfolding answered
-  by-file w n e z =
-      refused-here n (fileRefusal f) (rows (planIn f)) e z ∙ sym (first-next (given another-length wrong) _ w)
+  file-refuses w n e z written before =
+      let first = e ∙ first-here (refusedBy (fileRefusal f)) (rows (planIn f)) (ap not (ne-eqb (fileRefusal f) 0 (λ q. z (e ∙ q)))) in
+      rows-answer wrong _ w n first written before before (refused-leaves n written before z)
 
-  pub by-rows : wrong ≡ false → fileRefusal f ≡ 0 → firstOf (rows (planIn f)) ≡ answered wrong f rows
+  -- by the rows of the plan that was taken from the file, with what it writes
+  pub plan-answers : wrong ≡ false → (t : ℕ) (P : Plan) → t ≡ fileRefusal f → t ≡ 0 → P ≡ planIn f → (n : ℕ) → n ≡ firstOf (rows P) → (written : Plan → List ℕ) (before after : List ℕ) → after ≡ leaves n (written P) before → FileEnds n (written (planIn f)) before after
   unfolding answered
-  by-rows w e = sym (refused-next (fileRefusal f) (fileRefusal f) (rows (planIn f)) refl e) ∙ sym (first-next (given another-length wrong) _ w)
+  plan-answers w t P e z p n rowed written before after left =
+      let next = first-next (refusedBy (fileRefusal f)) (rows (planIn f)) (ap not (eq-eqb (fileRefusal f) 0 (sym e ∙ z))) in
+      rows-answer wrong _ w n (rowed ∙ ap (λ (Q : Plan). firstOf (rows Q)) p ∙ sym next) (written (planIn f)) before after (left ∙ ap (λ (Q : Plan). leaves n (written Q) before) p)
 
--- a refused call leaves a buffer as it was, a done call what it wrote
-pub refused-leaves : (n answer : ℕ) (written before : List ℕ) → n ≡ answer → (n ≡ 0 → ⊥) → before ≡ leaves answer written before
-unfolding leaves
-refused-leaves n answer written before e z = rw (ne-eqb answer 0 (λ q. z (e ∙ q)))
-
-pub done-leaves : (answer : ℕ) (written before after : List ℕ) → 0 ≡ answer → after ≡ written → after ≡ leaves answer written before
-unfolding leaves
-done-leaves answer written before after e p = rw (eq-eqb answer 0 (sym e)) p
-
--- what is written either way is left either way
-pub same-leaves : (answer : ℕ) (before : List ℕ) → before ≡ leaves answer before before
-unfolding leaves
-same-leaves answer before = go (eqb answer 0)
-  where
-    go : (b : Bool) → before ≡ cond b before before
-    go true = refl
-    go false = refl
-
--- two lengths as asked
-pub lengths-right : (a x b y : ℕ) → (not (eqb a x) || not (eqb b y)) ≡ false → (a ≡ x) × (b ≡ y)
-lengths-right a x b y h = (
-  eqb-true a x (false-not-true (eqb a x) (or-false-left (not (eqb a x)) (not (eqb b y)) h)),
-  eqb-true b y (false-not-true (eqb b y) (or-false-right (not (eqb a x)) (not (eqb b y)) h)),
-)
-
--- forms of answers that may be refusals
-pub ticks-leaves : (x : Reckoned) (before : List ℕ) → ticksBytes x before ≡ leaves (reckonedNumber x) (ticksBytes x before) before
-unfolding ticksBytes leaves
-ticks-leaves (reckoned.Ticks n) before = refl
-ticks-leaves (reckoned.Refused n) before = same-leaves n before
-
+-- a step that is the buffer as it was where the line is refused
 pub line-leaves : (x : Line) (before : List ℕ) → lineBytes x before ≡ leaves (lineNumber x) (lineBytes x before) before
 unfolding lineBytes leaves
 line-leaves (line.Asks s) before = refl
 line-leaves (line.Refused n) before = same-leaves n before
-
--- bytes that 10 does not speak against spell a run in range
-pub inside-range : (P : Plan) (bytes : List ℕ) → runOutside P bytes ≡ false → inRange P (runFor P bytes) ≡ true
-unfolding runOutside
-inside-range P bytes h = false-not-true (inRange P (runFor P bytes)) (or-false-right (runWrong P bytes) (not (inRange P (runFor P bytes))) h)

@@ -1,5 +1,3 @@
 -- What the proofs of several calls use, and that a refused call changes nothing.
 pub mod Calling
-pub mod Writing
-pub mod AskedOn
 pub mod Unchanged

@@ -1,12 +1,4 @@
 // The library for C and Rust: calls on lent bytes, each total, none keeping anything from one call to the next.
-mod answers;
-mod forms;
-mod many;
-mod places;
-mod runs;
-mod taken;
-mod verdicts;
-
 ghost use mathlib.Core.Path.{_≡_};
 ghost use Rattle.weftpillar.specs.Calls.{
   judgeAnswer,
@@ -30,24 +22,26 @@ ghost use Rattle.weftpillar.specs.Calls.{
   nextLeavesPlace,
   nextLeavesStep,
 };
-use answers::line_number;
-use forms::write_line;
-use many::counts_differ;
-use many::steps_on;
-use places::next_on;
-use places::write_place;
+use answer_bytes::line_number;
+use answer_bytes::write_line;
+use answer_bytes::write_place;
+use answer_bytes::write_verdict;
+use byte_calls::apart_on;
+use byte_calls::counts_differ;
+use byte_calls::lengths_differ;
+use byte_calls::next_on;
+use byte_calls::reckon_on;
+use byte_calls::step_on;
+use byte_calls::steps_on;
+use byte_calls::taken_from;
+use byte_calls::verdict_by;
 use run::fresh;
 use run_bytes::write_run;
-use runs::apart_on;
-use runs::reckon_on;
-use runs::step_on;
 use shown::fresh_place;
 use step_lines::read_line;
-use taken::ANOTHER_LENGTH;
-use taken::lengths_differ;
-use taken::taken_from;
-use verdicts::verdict_by;
-use verdicts::write_verdict;
+
+// A lent buffer has another length than the call asks for.
+const ANOTHER_LENGTH: u8 = 255;
 
 // A plan file judged: the verdict, 51 bytes.
 #[no_mangle]

@@ -1,3 +1,4 @@
+-- The test is that of the definition.
 use Rattle.run_bytes.specs.RunBytes.{lastIn}
 use Rattle.laws.proofs.Tests.{tests}
 use borrow.Author.Needs.{needs}

@@ -1,3 +1,4 @@
+-- The tests are those of the definition.
 use Rattle.run_bytes.specs.RunBytes.{modeIn}
 use Rattle.laws.proofs.Tests.{tests}
 use Rattle.run_bytes.proofs.mode_in.Statement.{statement}

@@ -1,3 +1,4 @@
+-- Each number by its reader.
 use Rattle.run_bytes.specs.RunBytes.{nodeIn}
 use borrow.Author.Needs.{needs}
 use Rattle.run_bytes.proofs.node_in.Statement.{statement}

@@ -1,3 +1,4 @@
+-- The tests are those of the definition.
 use Rattle.run_bytes.specs.RunBytes.{nodeWrong}
 use Rattle.laws.proofs.Tests.{tests}
 use borrow.Author.Needs.{needs}

@@ -1,3 +1,4 @@
+-- None of the first k places is wrong; one that is found is one of all.
 use Rattle.run_bytes.specs.RunBytes.{nodeWrong, numbersWrong}
 use Rattle.laws.specs.Below.{anyBelow}
 use Rattle.laws.proofs.Belows.{any-none, any-more, any-found}

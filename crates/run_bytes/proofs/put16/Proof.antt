@@ -1,3 +1,4 @@
+-- Two stores, one after the other, are the two bytes.
 use native.Mathlib.Numerals.{towards-suc}
 use native.Mathlib.Omega.{arith}
 use lib.ListN.{length-set}

@@ -1,3 +1,4 @@
+-- Two halves, one after the other, are the four bytes.
 use native.Mathlib.Numerals.{towards-suc}
 use borrow.Author.Needs.{needs}
 use Rattle.run_bytes.proofs.put32.Statement.{statement}

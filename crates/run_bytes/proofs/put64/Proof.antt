@@ -1,3 +1,4 @@
+-- Two halves, one after the other, are the eight bytes.
 use native.Mathlib.Numerals.{towards-suc}
 use borrow.Author.Needs.{needs}
 use Rattle.run_bytes.proofs.put64.Statement.{statement}

@@ -1,3 +1,4 @@
+-- The first k places are read, the others are fresh.
 use lib.ListN.{length, length-replicate}
 use Rattle.run.specs.declared.Run.{Run}
 use denote.Ref.{now}

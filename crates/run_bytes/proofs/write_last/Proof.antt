@@ -1,3 +1,4 @@
+-- Either form of the last message, mark and slot.
 use Rattle.run_bytes.specs.RunBytes.{lastBytes}
 use borrow.Author.Needs.{needs}
 use Rattle.run_bytes.proofs.write_last.Statement.{statement}

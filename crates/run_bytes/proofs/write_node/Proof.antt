@@ -1,3 +1,4 @@
+-- Five parts, one after the other, are the nine bytes.
 use Rattle.run_bytes.specs.RunBytes.{nodeBytes}
 use native.Mathlib.Numerals.{towards-suc}
 use borrow.Author.Needs.{needs}

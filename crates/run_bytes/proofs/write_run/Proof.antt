@@ -1,3 +1,4 @@
+-- The first k places are written, the length stays.
 use Rattle.run_bytes.proofs.Written.{nodes-none, nodes-more}
 use native.Mathlib.Omega.{arith}
 use Rattle.run_bytes.specs.RunBytes.{nodesBytes, runBytes}

@@ -1,3 +1,4 @@
+-- Safe: the colon stands in the line, so that both parts do.
 use mathlib.Core.Path.{sym}
 use lib.Seq.{length-take-le}
 use borrow.Author.Needs.{needs}

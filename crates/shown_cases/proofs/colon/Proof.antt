@@ -1,3 +1,4 @@
+-- Safe, and ends: a byte a turn. Nothing has to hold from turn to turn.
 use Prim.Native.Nat.{_-_}
 use borrow.Author.Needs.{needs}
 use Rattle.shown_cases.proofs.colon.Statement.{statement}

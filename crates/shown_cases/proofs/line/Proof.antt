@@ -1,3 +1,4 @@
+-- Safe: what was written ends within the buffer.
 use mathlib.Core.Path.{sym}
 use lib.Seq.{length-take-le}
 use borrow.Author.Needs.{needs}

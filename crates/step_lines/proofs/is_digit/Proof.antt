@@ -1,3 +1,4 @@
+-- The tests are those of the definition.
 use Rattle.laws.proofs.Tests.{tests}
 use Rattle.step_lines.proofs.is_digit.Statement.{statement}
 use Rattle.step_lines.proofs.is_digit.Tie as tie

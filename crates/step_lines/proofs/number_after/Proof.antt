@@ -1,3 +1,4 @@
+-- The tests are those of the definition; a number that passes the last one fits.
 use Rattle.laws.proofs.Tests.{tests}
 use borrow.Author.Needs.{needs}
 use Rattle.step_lines.proofs.number_after.Statement.{statement}

@@ -1,3 +1,4 @@
+-- The bytes that are left, read from where the reading stands, make the reading of the whole line.
 use denote.Ref.{now}
 use Prim.Native.Nat.{_≤_, _-_}
 use mathlib.Core.Path.{_≡_, refl, sym, ap, _∙_}

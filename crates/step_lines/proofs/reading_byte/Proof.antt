@@ -1,3 +1,4 @@
+-- One outcome for each state of the reading and each test of the byte.
 use mathlib.Core.Path.{sym, _∙_}
 use native.Mathlib.Omega.{arith}
 use borrow.Author.Tests.{ne-eqb, leb-true}

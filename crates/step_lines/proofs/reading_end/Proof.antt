@@ -1,3 +1,4 @@
+-- A whole line by its letter and number; every other reading is refused.
 use mathlib.Core.Path.{_≡_, refl}
 use mathlib.Core.List.{[], _∷_}
 use types.Run.{OneOf, miss}

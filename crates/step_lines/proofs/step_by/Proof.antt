@@ -1,3 +1,4 @@
+-- The tests are those of the definition.
 use Rattle.laws.proofs.Tests.{tests}
 use Rattle.step_lines.proofs.step_by.Statement.{statement}
 use Rattle.step_lines.proofs.step_by.Tie as tie

@@ -1,13 +1,11 @@
-use Prim.Native.Nat.{ℕ}
-use mathlib.Core.Path.{_≡_, sym, ap, _∙_}
-use native.Mathlib.Omega.{arith}
+-- Refused by a length or the reader, else the answer of the plan in the file, and both buffers by it.
+use mathlib.Core.Path.{sym, _∙_}
 use borrow.Author.Needs.{needs}
 use denote.Ref.{now}
-use Rattle.laws.specs.Row.{firstOf}
-use Rattle.plan.specs.declared.Plan.{Plan}
-use Rattle.weftpillar.specs.Answers.{planIn, leaves}
-use Rattle.weftpillar.specs.Calls.{nextTests, nextPlaceWrites, nextStepWrites, nextAnswer, nextLeavesPlace, nextLeavesStep}
-use Rattle.weftpillar.proofs.Calling.{by-length, by-file, by-rows, refused-leaves, lengths-right}
+use Rattle.byte_calls.specs.TestsAndWrites.{nextTests, nextPlaceWrites, nextStepWrites}
+use Rattle.byte_calls.proofs.TwoLengths.{lengths-right}
+use Rattle.weftpillar.specs.Calls.{nextAnswer, nextLeavesPlace, nextLeavesStep}
+use Rattle.weftpillar.proofs.Calling.{length-refuses, file-refuses, plan-answers}
 use Rattle.weftpillar.proofs.weftpillar_next.Statement.{statement}
 use Rattle.weftpillar.proofs.weftpillar_next.Tie as tie
 
@@ -17,9 +15,9 @@ lengths-differ-requires c κs = search needs
 returns : tie.Need-returns
 unfolding nextAnswer nextLeavesPlace nextLeavesStep
 returns c =
-    let a = c .before .before .before .before .before .args in
-    let e : 255 ≡ nextAnswer (now (a .plan)) (now (a .place)) (now (a .step)) = by-length _ _ _ (sym (c .before .lengths-differ .ensures) ∙ c .if1 .taken) in
-    (e, (refused-leaves 255 _ _ _ e (λ z. omega arith), refused-leaves 255 _ _ _ e (λ z. omega arith)))
+    let w = sym (c .before .lengths-differ .ensures) ∙ c .if1 .taken in
+    let place = length-refuses _ _ _ w _ _ in
+    (place .0, (place .1, length-refuses _ _ _ w _ _ .1))
 
 taken-from-requires : tie.Need-taken-from-requires
 taken-from-requires c κs = search needs
@@ -27,10 +25,10 @@ taken-from-requires c κs = search needs
 returns-2 : tie.Need-returns-2
 unfolding nextAnswer nextLeavesPlace nextLeavesStep
 returns-2 c =
-    let a = c .before .before .before .before .before .before .before .before .args in
     let t = c .before .before .taken-from in
-    let e : t .result .number ≡ nextAnswer (now (a .plan)) (now (a .place)) (now (a .step)) = by-file _ _ _ (sym (c .before .before .before .before .lengths-differ .ensures) ∙ c .before .before .before .if1 .left) _ (t .ensures .0) (c .if2 .taken) in
-    (e, (refused-leaves _ _ _ _ e (c .if2 .taken), refused-leaves _ _ _ _ e (c .if2 .taken)))
+    let w = sym (c .before .before .before .before .lengths-differ .ensures) ∙ c .before .before .before .if1 .left in
+    let place = file-refuses _ _ _ w _ (t .ensures .0) (c .if2 .taken) _ _ in
+    (place .0, (place .1, file-refuses _ _ _ w _ (t .ensures .0) (c .if2 .taken) _ _ .1))
 
 next-on-requires : tie.Need-next-on-requires
 next-on-requires c κs = let l = lengths-right _ _ _ _ (sym (c .before .before .before .before .before .before .lengths-differ .ensures) ∙ c .before .before .before .before .before .if1 .left) in (c .before .before .before .before .taken-from .ensures .2 (c .before .before .if2 .left), (l .0, l .1))
@@ -49,17 +47,9 @@ returns-3 c =
     let d = c .before .before .before .before .next-on in
     let place = now (a .place) in
     let step = now (a .step) in
-    let P′ = planIn (now (a .plan)) in
-    let e : d .result ≡ nextAnswer (now (a .plan)) (now (a .place)) (now (a .step)) =
-    d .ensures .0
-    ∙ ap (λ (P : Plan). firstOf (nextTests P place)) (t .ensures .1)
-    ∙ by-rows _ _ (λ P. nextTests P place) (sym (c .before .before .before .before .before .before .before .before .before .before .before .lengths-differ .ensures) ∙ c .before .before .before .before .before .before .before .before .before .before .if1 .left) (sym (t .ensures .0) ∙ c .before .before .before .before .before .before .before .if2 .left) in (
-      e,
-      (
-        d .ensures .1 .0 ∙ ap (λ (P : Plan). leaves (d .result) (nextPlaceWrites P place) place) (t .ensures .1) ∙ ap (λ (n : ℕ). leaves n (nextPlaceWrites P′ place) place) e,
-        d .ensures .1 .1 ∙ ap (λ (P : Plan). leaves (d .result) (nextStepWrites P place step) step) (t .ensures .1) ∙ ap (λ (n : ℕ). leaves n (nextStepWrites P′ place step) step) e,
-      ),
-    )
+    let by = plan-answers _ _ (λ P. nextTests P place) (sym (c .before .before .before .before .before .before .before .before .before .before .before .lengths-differ .ensures) ∙ c .before .before .before .before .before .before .before .before .before .before .if1 .left) _ _ (t .ensures .0) (c .before .before .before .before .before .before .before .if2 .left) (t .ensures .1) _ (d .ensures .0) in
+    let moved = by (λ P. nextPlaceWrites P place) _ _ (d .ensures .1 .0) in
+    (moved .0, (moved .1, by (λ P. nextStepWrites P place step) _ _ (d .ensures .1 .1) .1))
 
 pub weftpillar-next-spec : {M : Type 1} → statement M
 weftpillar-next-spec =

@@ -1,15 +1,11 @@
-use Prim.Native.Nat.{ℕ}
-use mathlib.Core.Path.{_≡_, sym, ap, _∙_}
-use native.Mathlib.Omega.{arith}
+-- Refused by a length or the reader, else the answer of the plan in the file, and the buffer by it.
+use mathlib.Core.Path.{sym, _∙_}
 use borrow.Author.Needs.{needs}
 use denote.Ref.{now}
-use Rattle.laws.specs.Row.{firstOf}
-use Rattle.plan.specs.declared.Plan.{Plan}
-use Rattle.run.specs.State.{apartTested}
-use Rattle.weftpillar.specs.Answers.{planIn, leaves}
-use Rattle.weftpillar.specs.Calls.{apartAnswer, apartLeaves, runTests, runFor}
-use Rattle.weftpillar.specs.Forms.{apartBytes}
-use Rattle.weftpillar.proofs.Calling.{by-length, by-file, by-rows, refused-leaves, lengths-right}
+use Rattle.byte_calls.specs.TestsAndWrites.{runTests, apartWrites}
+use Rattle.byte_calls.proofs.TwoLengths.{lengths-right}
+use Rattle.weftpillar.specs.Calls.{apartAnswer, apartLeaves}
+use Rattle.weftpillar.proofs.Calling.{length-refuses, file-refuses, plan-answers}
 use Rattle.weftpillar.proofs.weftpillar_out_of_step.Statement.{statement}
 use Rattle.weftpillar.proofs.weftpillar_out_of_step.Tie as tie
 
@@ -18,22 +14,14 @@ lengths-differ-requires c κs = search needs
 
 returns : tie.Need-returns
 unfolding apartAnswer apartLeaves
-returns c =
-    let a = c .before .before .before .before .before .args in
-    let e : 255 ≡ apartAnswer (now (a .plan)) (now (a .run)) (now (a .answer)) = by-length _ _ _ (sym (c .before .lengths-differ .ensures) ∙ c .if1 .taken) in
-    (e, refused-leaves 255 _ _ _ e (λ z. omega arith))
+returns c = length-refuses _ _ _ (sym (c .before .lengths-differ .ensures) ∙ c .if1 .taken) _ _
 
 taken-from-requires : tie.Need-taken-from-requires
 taken-from-requires c κs = search needs
 
 returns-2 : tie.Need-returns-2
 unfolding apartAnswer apartLeaves
-returns-2 c =
-    let a = c .before .before .before .before .before .before .before .before .args in
-    let t = c .before .before .taken-from in
-    let e : t .result .number ≡ apartAnswer (now (a .plan)) (now (a .run)) (now (a .answer)) =
-    by-file _ _ _ (sym (c .before .before .before .before .lengths-differ .ensures) ∙ c .before .before .before .if1 .left) _ (t .ensures .0) (c .if2 .taken) in
-    (e, refused-leaves _ _ _ _ e (c .if2 .taken))
+returns-2 c = let t = c .before .before .taken-from in file-refuses _ _ _ (sym (c .before .before .before .before .lengths-differ .ensures) ∙ c .before .before .before .if1 .left) _ (t .ensures .0) (c .if2 .taken) _ _
 
 apart-on-requires : tie.Need-apart-on-requires
 apart-on-requires c κs = let l = lengths-right _ _ _ _ (sym (c .before .before .before .before .before .lengths-differ .ensures) ∙ c .before .before .before .before .if1 .left) in (c .before .before .before .taken-from .ensures .2 (c .before .if2 .left), (l .0, l .1))
@@ -47,11 +35,7 @@ returns-3 c =
     let a = c .before .before .before .before .before .before .before .before .before .before .before .before .args in
     let t = c .before .before .before .before .before .before .taken-from in
     let d = c .before .before .apart-on in
-    let e : d .result ≡ apartAnswer (now (a .plan)) (now (a .run)) (now (a .answer)) =
-    d .ensures .0
-    ∙ ap (λ (P : Plan). firstOf (runTests P (now (a .run)))) (t .ensures .1)
-    ∙ by-rows _ _ (λ P. runTests P (now (a .run))) (sym (c .before .before .before .before .before .before .before .before .lengths-differ .ensures) ∙ c .before .before .before .before .before .before .before .if1 .left) (sym (t .ensures .0) ∙ c .before .before .before .before .if2 .left) in
-    (e, d .ensures .1 ∙ ap (λ (P : Plan). leaves (d .result) (apartBytes (apartTested P (runFor P (now (a .run)))) (now (a .answer))) (now (a .answer))) (t .ensures .1) ∙ ap (λ (n : ℕ). leaves n (apartBytes (apartTested (planIn (now (a .plan))) (runFor (planIn (now (a .plan))) (now (a .run)))) (now (a .answer))) (now (a .answer))) e)
+    plan-answers _ _ (λ P. runTests P (now (a .run))) (sym (c .before .before .before .before .before .before .before .before .lengths-differ .ensures) ∙ c .before .before .before .before .before .before .before .if1 .left) _ _ (t .ensures .0) (c .before .before .before .before .if2 .left) (t .ensures .1) _ (d .ensures .0) (λ P. apartWrites P (now (a .run)) (now (a .answer))) _ _ (d .ensures .1)
 
 pub weftpillar-out-of-step-spec : {M : Type 1} → statement M
 weftpillar-out-of-step-spec =

@@ -1,13 +1,11 @@
-use Prim.Native.Nat.{ℕ}
-use mathlib.Core.Path.{_≡_, sym, ap, _∙_}
-use native.Mathlib.Omega.{arith}
+-- Refused by a length or the reader, else the answer of the plan in the file, and the buffer by it.
+use mathlib.Core.Path.{sym, _∙_}
 use borrow.Author.Needs.{needs}
 use denote.Ref.{now}
-use Rattle.laws.specs.Row.{firstOf}
-use Rattle.plan.specs.declared.Plan.{Plan}
-use Rattle.weftpillar.specs.Answers.{planIn, leaves}
-use Rattle.weftpillar.specs.Calls.{reckonAnswer, reckonLeaves, reckonTests, reckonWrites}
-use Rattle.weftpillar.proofs.Calling.{by-length, by-file, by-rows, refused-leaves, lengths-right}
+use Rattle.byte_calls.specs.TestsAndWrites.{reckonTests, reckonWrites}
+use Rattle.byte_calls.proofs.TwoLengths.{lengths-right}
+use Rattle.weftpillar.specs.Calls.{reckonAnswer, reckonLeaves}
+use Rattle.weftpillar.proofs.Calling.{length-refuses, file-refuses, plan-answers}
 use Rattle.weftpillar.proofs.weftpillar_reckon.Statement.{statement}
 use Rattle.weftpillar.proofs.weftpillar_reckon.Tie as tie
 
@@ -16,22 +14,14 @@ lengths-differ-requires c κs = search needs
 
 returns : tie.Need-returns
 unfolding reckonAnswer reckonLeaves
-returns c =
-    let a = c .before .before .before .before .before .args in
-    let e : 255 ≡ reckonAnswer (now (a .plan)) (now (a .run)) (a .node) (now (a .ticks)) = by-length _ _ _ (sym (c .before .lengths-differ .ensures) ∙ c .if1 .taken) in
-    (e, refused-leaves 255 _ _ _ e (λ z. omega arith))
+returns c = length-refuses _ _ _ (sym (c .before .lengths-differ .ensures) ∙ c .if1 .taken) _ _
 
 taken-from-requires : tie.Need-taken-from-requires
 taken-from-requires c κs = search needs
 
 returns-2 : tie.Need-returns-2
 unfolding reckonAnswer reckonLeaves
-returns-2 c =
-    let a = c .before .before .before .before .before .before .before .before .args in
-    let t = c .before .before .taken-from in
-    let e : t .result .number ≡ reckonAnswer (now (a .plan)) (now (a .run)) (a .node) (now (a .ticks)) =
-    by-file _ _ _ (sym (c .before .before .before .before .lengths-differ .ensures) ∙ c .before .before .before .if1 .left) _ (t .ensures .0) (c .if2 .taken) in
-    (e, refused-leaves _ _ _ _ e (c .if2 .taken))
+returns-2 c = let t = c .before .before .taken-from in file-refuses _ _ _ (sym (c .before .before .before .before .lengths-differ .ensures) ∙ c .before .before .before .if1 .left) _ (t .ensures .0) (c .if2 .taken) _ _
 
 reckon-on-requires : tie.Need-reckon-on-requires
 reckon-on-requires c κs = let l = lengths-right _ _ _ _ (sym (c .before .before .before .before .before .lengths-differ .ensures) ∙ c .before .before .before .before .if1 .left) in (c .before .before .before .taken-from .ensures .2 (c .before .if2 .left), (l .0, l .1))
@@ -45,11 +35,7 @@ returns-3 c =
     let a = c .before .before .before .before .before .before .before .before .before .before .before .before .args in
     let t = c .before .before .before .before .before .before .taken-from in
     let d = c .before .before .reckon-on in
-    let e : d .result ≡ reckonAnswer (now (a .plan)) (now (a .run)) (a .node) (now (a .ticks)) =
-    d .ensures .0
-    ∙ ap (λ (P : Plan). firstOf (reckonTests P (now (a .run)) (a .node))) (t .ensures .1)
-    ∙ by-rows _ _ (λ P. reckonTests P (now (a .run)) (a .node)) (sym (c .before .before .before .before .before .before .before .before .lengths-differ .ensures) ∙ c .before .before .before .before .before .before .before .if1 .left) (sym (t .ensures .0) ∙ c .before .before .before .before .if2 .left) in
-    (e, d .ensures .1 ∙ ap (λ (P : Plan). leaves (d .result) (reckonWrites P (now (a .run)) (a .node) (now (a .ticks))) (now (a .ticks))) (t .ensures .1) ∙ ap (λ (n : ℕ). leaves n (reckonWrites (planIn (now (a .plan))) (now (a .run)) (a .node) (now (a .ticks))) (now (a .ticks))) e)
+    plan-answers _ _ (λ P. reckonTests P (now (a .run)) (a .node)) (sym (c .before .before .before .before .before .before .before .before .lengths-differ .ensures) ∙ c .before .before .before .before .before .before .before .if1 .left) _ _ (t .ensures .0) (c .before .before .before .before .if2 .left) (t .ensures .1) _ (d .ensures .0) (λ P. reckonWrites P (now (a .run)) (a .node) (now (a .ticks))) _ _ (d .ensures .1)
 
 pub weftpillar-reckon-spec : {M : Type 1} → statement M
 weftpillar-reckon-spec =

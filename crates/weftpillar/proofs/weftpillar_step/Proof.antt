@@ -1,36 +1,25 @@
-use Prim.Native.Nat.{ℕ}
+-- Refused by the length or the reader, else the answer of the plan in the file, and the run by it.
 use mathlib.Core.Bool.{not}
-use mathlib.Core.Path.{_≡_, sym, ap, _∙_}
-use native.Mathlib.Omega.{arith}
+use mathlib.Core.Path.{ap}
 use borrow.Author.Needs.{needs}
 use borrow.Author.Tests.{eq-eqb, ne-eqb}
 use denote.Ref.{now}
-use Rattle.laws.specs.Row.{firstOf}
-use Rattle.plan.specs.declared.Plan.{Plan}
-use Rattle.weftpillar.specs.Answers.{planIn, leaves}
-use Rattle.weftpillar.specs.Calls.{stepAnswer, stepLeaves, stepTests, stepWrites}
-use Rattle.weftpillar.proofs.Calling.{by-length, by-file, by-rows, refused-leaves}
+use Rattle.byte_calls.specs.TestsAndWrites.{stepTests, stepWrites}
+use Rattle.weftpillar.specs.Calls.{stepAnswer, stepLeaves}
+use Rattle.weftpillar.proofs.Calling.{length-refuses, file-refuses, plan-answers}
 use Rattle.weftpillar.proofs.weftpillar_step.Statement.{statement}
 use Rattle.weftpillar.proofs.weftpillar_step.Tie as tie
 
 returns : tie.Need-returns
 unfolding stepAnswer stepLeaves
-returns c =
-    let a = c .before .before .before .args in
-    let e : 255 ≡ stepAnswer (now (a .plan)) (now (a .run)) (a .letter) (a .number) = by-length _ _ _ (ap not (ne-eqb _ 291 (c .if1 .taken))) in
-    (e, refused-leaves 255 _ _ _ e (λ z. omega arith))
+returns c = length-refuses _ _ _ (ap not (ne-eqb _ 291 (c .if1 .taken))) _ _
 
 taken-from-requires : tie.Need-taken-from-requires
 taken-from-requires c κs = search needs
 
 returns-2 : tie.Need-returns-2
 unfolding stepAnswer stepLeaves
-returns-2 c =
-    let a = c .before .before .before .before .before .before .args in
-    let t = c .before .before .taken-from in
-    let e : t .result .number ≡ stepAnswer (now (a .plan)) (now (a .run)) (a .letter) (a .number) =
-    by-file _ _ _ (ap not (eq-eqb _ 291 (c .before .before .before .if1 .left))) _ (t .ensures .0) (c .if2 .taken) in
-    (e, refused-leaves _ _ _ _ e (c .if2 .taken))
+returns-2 c = let t = c .before .before .taken-from in file-refuses _ _ _ (ap not (eq-eqb _ 291 (c .before .before .before .if1 .left))) _ (t .ensures .0) (c .if2 .taken) _ _
 
 step-on-requires : tie.Need-step-on-requires
 step-on-requires c κs = (c .before .before .before .taken-from .ensures .2 (c .before .if2 .left), c .before .before .before .before .if1 .left)
@@ -44,11 +33,7 @@ returns-3 c =
     let a = c .before .before .before .before .before .before .before .before .before .before .args in
     let t = c .before .before .before .before .before .before .taken-from in
     let d = c .before .before .step-on in
-    let e : d .result ≡ stepAnswer (now (a .plan)) (now (a .run)) (a .letter) (a .number) =
-    d .ensures .0
-    ∙ ap (λ (P : Plan). firstOf (stepTests P (now (a .run)) (a .letter) (a .number))) (t .ensures .1)
-    ∙ by-rows _ _ (λ P. stepTests P (now (a .run)) (a .letter) (a .number)) (ap not (eq-eqb _ 291 (c .before .before .before .before .before .before .before .if1 .left))) (sym (t .ensures .0) ∙ c .before .before .before .before .if2 .left) in
-    (e, d .ensures .1 ∙ ap (λ (P : Plan). leaves (d .result) (stepWrites P (now (a .run)) (a .letter) (a .number)) (now (a .run))) (t .ensures .1) ∙ ap (λ (n : ℕ). leaves n (stepWrites (planIn (now (a .plan))) (now (a .run)) (a .letter) (a .number)) (now (a .run))) e)
+    plan-answers _ _ (λ P. stepTests P (now (a .run)) (a .letter) (a .number)) (ap not (eq-eqb _ 291 (c .before .before .before .before .before .before .before .if1 .left))) _ _ (t .ensures .0) (c .before .before .before .before .if2 .left) (t .ensures .1) _ (d .ensures .0) (λ P. stepWrites P (now (a .run)) (a .letter) (a .number)) _ _ (d .ensures .1)
 
 pub weftpillar-step-spec : {M : Type 1} → statement M
 weftpillar-step-spec =

@@ -1,28 +1,25 @@
-use Prim.Native.Nat.{ℕ, _*_}
+-- Refused by a length, by the count or by the reader, else the answer of the plan in the file, and both buffers by it.
+use Prim.Native.Nat.{_*_}
 use mathlib.Core.Bool.{not}
-use mathlib.Core.Path.{_≡_, sym, ap, _∙_}
-use native.Mathlib.Omega.{arith}
+use mathlib.Core.Path.{sym, ap, _∙_}
 use lib.Dec.{eqb}
 use lib.ListN.{length}
 use borrow.Author.Needs.{needs}
 use borrow.Author.Tests.{eqb-true, eq-eqb, ne-eqb}
 use denote.Ref.{now}
 use Rattle.laws.proofs.Bools.{or-neither, or-true-left, or-true-right, false-not-true}
-use Rattle.laws.specs.Row.{firstOf}
-use Rattle.plan.specs.declared.Plan.{Plan}
-use Rattle.weftpillar.specs.Answers.{planIn, leaves}
-use Rattle.weftpillar.specs.Calls.{runTests, stepsWrites, stepsAnswer, stepsLeavesRun, stepsLeavesAnswers, runFor}
-use Rattle.weftpillar.specs.Many.{answersBytes}
-use Rattle.weftpillar.proofs.Calling.{by-length, by-file, by-rows, refused-leaves}
+use Rattle.byte_calls.specs.TestsAndWrites.{runTests, stepsWrites, answersWrites}
+use Rattle.weftpillar.specs.Calls.{stepsAnswer, stepsLeavesRun, stepsLeavesAnswers}
+use Rattle.weftpillar.proofs.Calling.{length-refuses, file-refuses, plan-answers}
 use Rattle.weftpillar.proofs.weftpillar_steps.Statement.{statement}
 use Rattle.weftpillar.proofs.weftpillar_steps.Tie as tie
 
 returns : tie.Need-returns
 unfolding stepsAnswer stepsLeavesRun stepsLeavesAnswers
 returns c =
-    let a = c .before .before .before .before .before .args in
-    let e : 255 ≡ stepsAnswer (now (a .plan)) (now (a .run)) (now (a .steps)) (now (a .answers)) = by-length _ _ _ (or-true-left _ _ (ap not (ne-eqb _ 291 (c .if1 .taken)))) in
-    (e, (refused-leaves 255 _ _ _ e (λ z. omega arith), refused-leaves 255 _ _ _ e (λ z. omega arith)))
+    let w = or-true-left _ _ (ap not (ne-eqb _ 291 (c .if1 .taken))) in
+    let run = length-refuses _ _ _ w _ _ in
+    (run .0, (run .1, length-refuses _ _ _ w _ _ .1))
 
 counts-differ-requires : tie.Need-counts-differ-requires
 counts-differ-requires c κs = search needs
@@ -31,8 +28,9 @@ returns-2 : tie.Need-returns-2
 unfolding stepsAnswer stepsLeavesRun stepsLeavesAnswers
 returns-2 c =
     let a = c .before .before .before .before .before .before .before .args in
-    let e : 255 ≡ stepsAnswer (now (a .plan)) (now (a .run)) (now (a .steps)) (now (a .answers)) = by-length _ _ _ (or-true-right (not (eqb (length (now (a .run))) 291)) (not (eqb (length (now (a .steps))) (5 * length (now (a .answers))))) (sym (c .before .counts-differ .ensures) ∙ c .if2 .taken)) in
-    (e, (refused-leaves 255 _ _ _ e (λ z. omega arith), refused-leaves 255 _ _ _ e (λ z. omega arith)))
+    let w = or-true-right (not (eqb (length (now (a .run))) 291)) (not (eqb (length (now (a .steps))) (5 * length (now (a .answers))))) (sym (c .before .counts-differ .ensures) ∙ c .if2 .taken) in
+    let run = length-refuses _ _ _ w _ _ in
+    (run .0, (run .1, length-refuses _ _ _ w _ _ .1))
 
 taken-from-requires : tie.Need-taken-from-requires
 taken-from-requires c κs = search needs
@@ -40,10 +38,10 @@ taken-from-requires c κs = search needs
 returns-3 : tie.Need-returns-3
 unfolding stepsAnswer stepsLeavesRun stepsLeavesAnswers
 returns-3 c =
-    let a = c .before .before .before .before .before .before .before .before .before .before .args in
     let t = c .before .before .taken-from in
-    let e : t .result .number ≡ stepsAnswer (now (a .plan)) (now (a .run)) (now (a .steps)) (now (a .answers)) = by-file _ _ _ (or-neither _ _ (ap not (eq-eqb _ 291 (c .before .before .before .before .before .if1 .left))) (sym (c .before .before .before .before .counts-differ .ensures) ∙ c .before .before .before .if2 .left)) _ (t .ensures .0) (c .if3 .taken) in
-    (e, (refused-leaves _ _ _ _ e (c .if3 .taken), refused-leaves _ _ _ _ e (c .if3 .taken)))
+    let w = or-neither _ _ (ap not (eq-eqb _ 291 (c .before .before .before .before .before .if1 .left))) (sym (c .before .before .before .before .counts-differ .ensures) ∙ c .before .before .before .if2 .left) in
+    let run = file-refuses _ _ _ w _ (t .ensures .0) (c .if3 .taken) _ _ in
+    (run .0, (run .1, file-refuses _ _ _ w _ (t .ensures .0) (c .if3 .taken) _ _ .1))
 
 steps-on-requires : tie.Need-steps-on-requires
 steps-on-requires c κs =
@@ -65,17 +63,9 @@ returns-4 c =
     let run = now (a .run) in
     let steps = now (a .steps) in
     let answers = now (a .answers) in
-    let P′ = planIn (now (a .plan)) in
-    let e : d .result ≡ stepsAnswer (now (a .plan)) (now (a .run)) (now (a .steps)) (now (a .answers)) =
-    d .ensures .0
-    ∙ ap (λ (P : Plan). firstOf (runTests P run)) (t .ensures .1)
-    ∙ by-rows _ _ (λ P. runTests P run) (or-neither _ _ (ap not (eq-eqb _ 291 (c .before .before .before .before .before .before .before .before .before .before .before .before .if1 .left))) (sym (c .before .before .before .before .before .before .before .before .before .before .before .counts-differ .ensures) ∙ c .before .before .before .before .before .before .before .before .before .before .if2 .left)) (sym (t .ensures .0) ∙ c .before .before .before .before .before .before .before .if3 .left) in (
-      e,
-      (
-        d .ensures .1 .0 ∙ ap (λ (P : Plan). leaves (d .result) (stepsWrites P run steps (length answers)) run) (t .ensures .1) ∙ ap (λ (n : ℕ). leaves n (stepsWrites P′ run steps (length answers)) run) e,
-        d .ensures .1 .1 ∙ ap (λ (P : Plan). leaves (d .result) (answersBytes P steps (length answers) (runFor P run) answers) answers) (t .ensures .1) ∙ ap (λ (n : ℕ). leaves n (answersBytes P′ steps (length answers) (runFor P′ run) answers) answers) e,
-      ),
-    )
+    let by = plan-answers _ _ (λ P. runTests P run) (or-neither _ _ (ap not (eq-eqb _ 291 (c .before .before .before .before .before .before .before .before .before .before .before .before .if1 .left))) (sym (c .before .before .before .before .before .before .before .before .before .before .before .counts-differ .ensures) ∙ c .before .before .before .before .before .before .before .before .before .before .if2 .left)) _ _ (t .ensures .0) (c .before .before .before .before .before .before .before .if3 .left) (t .ensures .1) _ (d .ensures .0) in
+    let moved = by (λ P. stepsWrites P run steps (length answers)) _ _ (d .ensures .1 .0) in
+    (moved .0, (moved .1, by (λ P. answersWrites P run steps answers) _ _ (d .ensures .1 .1) .1))
 
 pub weftpillar-steps-spec : {M : Type 1} → statement M
 weftpillar-steps-spec =

@@ -1,0 +1,3 @@
+pub mod Taken
+pub mod Many
+pub mod TestsAndWrites
