@@ -10,11 +10,11 @@ use lib.Seq.{getD-set-same, getD-set-other, set-getD}
 use lib.Dec.{ltb}
 use borrow.Author.Tests.{ltb-false}
 use Rattle.laws.proofs.Bools.{or-false-left, or-false-right}
-use Rattle.plan_file.specs.File.{byteAt}
+use Rattle.laws.specs.Bytes.{byteAt}
 use Rattle.shown.specs.declared.Mark.{Mark}
 use Rattle.shown.specs.declared.Mark.the-variants.{Before, In, After}
 use Rattle.shown.specs.declared.Place.{Place}
-use Rattle.run_bytes.specs.RunBytes.{runIn, runBytes, numbersWrong}
+use Rattle.run_bytes.specs.RunBytes.{runIn, runBytes, spellsNoRun}
 use Rattle.run_bytes.proofs.RoundTrip.{Holdable, read-written-run, run-same, length-run}
 use Rattle.run_bytes.proofs.Kept.{AllBytes, NonePlain, written-read}
 use Rattle.answer_bytes.specs.Places.{markByte, markIn, placeIn, placeBytes, placeWrong}
@@ -48,6 +48,6 @@ read-written-place N q bytes few long holdable =
 pub written-read-place : (N : ℕ) (l : List ℕ) → N ≤ 32 → AllBytes l → placeWrong N l ≡ false → NonePlain l → placeBytes N (placeIn N l) l ≡ l
 unfolding placeIn placeBytes placeWrong
 written-read-place N l few bytes right plain =
-    let run : runBytes N (runIn N l) l ≡ l = written-read N l few bytes (or-false-left (numbersWrong N l) (ltb 2 (byteAt l 291)) right) plain in
-    let mark : markByte (markIn (byteAt l 291)) ≡ byteAt l 291 = mark-kept (byteAt l 291) (or-false-right (numbersWrong N l) (ltb 2 (byteAt l 291)) right) in
+    let run : runBytes N (runIn N l) l ≡ l = written-read N l few bytes (or-false-left (spellsNoRun N l) (ltb 2 (byteAt l 291)) right) plain in
+    let mark : markByte (markIn (byteAt l 291)) ≡ byteAt l 291 = mark-kept (byteAt l 291) (or-false-right (spellsNoRun N l) (ltb 2 (byteAt l 291)) right) in
     ap (λ (m : List ℕ). set m 291 (markByte (markIn (byteAt l 291)))) run ∙ ap (λ (n : ℕ). set l 291 n) mark ∙ set-getD l 291 0

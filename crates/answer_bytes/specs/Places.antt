@@ -4,11 +4,11 @@ use mathlib.Core.Bool.{Bool, cond, _||_}
 use mathlib.Core.List.{List}
 use lib.ListN.{set}
 use lib.Dec.{eqb, ltb}
-use Rattle.plan_file.specs.File.{byteAt}
+use Rattle.laws.specs.Bytes.{byteAt}
 use Rattle.shown.specs.declared.Mark.{Mark}
 use Rattle.shown.specs.declared.Mark.the-variants.{Before, In, After}
 use Rattle.shown.specs.declared.Place.{Place}
-use Rattle.run_bytes.specs.RunBytes.{runIn, runBytes, numbersWrong}
+use Rattle.run_bytes.specs.RunBytes.{runIn, runBytes, spellsNoRun}
 
 -- A mark: 0 before the pivot, 1 in it, 2 after it.
 abbrev pub markByte : Mark → ℕ
@@ -28,4 +28,4 @@ placeBytes N q bytes = set (runBytes N (q .run) bytes) 291 (markByte (q .mark))
 
 -- The bytes spell no place: no run, or no mark.
 unfoldable pub placeWrong : ℕ → List ℕ → Bool
-placeWrong N bytes = numbersWrong N bytes || ltb 2 (byteAt bytes 291)
+placeWrong N bytes = spellsNoRun N bytes || ltb 2 (byteAt bytes 291)

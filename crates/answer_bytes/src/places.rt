@@ -3,9 +3,9 @@ ghost use mathlib.Core.Path.{_≡_};
 ghost use Prim.Native.Nat.{_≤_};
 ghost use lib.ListN.{length};
 ghost use Rattle.answer_bytes.specs.Places.{markByte, markIn, placeIn, placeBytes, placeWrong};
-use run_bytes::numbers_wrong;
 use run_bytes::put8;
 use run_bytes::read_run;
+use run_bytes::spells_no_run;
 use run_bytes::write_run;
 use shown::Mark;
 use shown::Place;
@@ -36,7 +36,7 @@ pub fn place_wrong(bytes: &[u8], nodes: usize) -> bool
     requires { ⌜ (nodes ≤ 32) × (length (now bytes) ≡ 292) ⌝ }
     ensures { λ r. ⌜ r ≡ placeWrong nodes (now (bytes .entry)) ⌝ }
 {
-    if numbers_wrong(bytes, nodes) {
+    if spells_no_run(bytes, nodes) {
         return true;
     }
     2 < bytes[291]

@@ -5,7 +5,8 @@ use mathlib.Core.List.{List}
 use Rattle.laws.specs.Over.{over}
 use Rattle.plan.specs.declared.Plan.{Plan}
 use Rattle.plan.specs.Refusals.{line-wrong}
-use Rattle.plan_file.specs.File.{byteAt, be32Of}
+use Rattle.laws.specs.Bytes.{byteAt}
+use Rattle.plan_file.specs.File.{be32Of}
 use Rattle.run.specs.declared.Run.{Run}
 use Rattle.run.specs.declared.Stepped.{Stepped}
 use Rattle.run.specs.Steps.{refusedWith, stepTested}

@@ -15,7 +15,7 @@ use Rattle.run.specs.Reckoning.{reckonedTested}
 use Rattle.shown.specs.declared.Place.{Place}
 use Rattle.shown.specs.Shown.{givenOf}
 use Rattle.step_lines.specs.StepLine.{isLetter, stepBy}
-use Rattle.run_bytes.specs.RunBytes.{runIn, runBytes, numbersWrong}
+use Rattle.run_bytes.specs.RunBytes.{runIn, runBytes, spellsNoRun}
 use Rattle.answer_bytes.specs.Answers.{answerNumber, reckonedNumber, nextNumber}
 use Rattle.answer_bytes.specs.Forms.{apartBytes, ticksBytes, nextBytes}
 use Rattle.answer_bytes.specs.Places.{placeIn, placeBytes, placeWrong}
@@ -37,7 +37,7 @@ abbrev pub runPut : Plan → Run → List ℕ → List ℕ
 runPut P r bytes = runBytes (P .nodes .0) r bytes
 
 abbrev pub runWrong : Plan → List ℕ → Bool
-runWrong P bytes = numbersWrong (P .nodes .0) bytes
+runWrong P bytes = spellsNoRun (P .nodes .0) bytes
 
 -- Refusal 10 of a run in bytes.
 unfoldable pub runOutside : Plan → List ℕ → Bool

@@ -19,8 +19,8 @@ use reckoning::reckon_tested;
 use run::Stepped;
 use run::apart_tested;
 use run::in_range;
-use run_bytes::numbers_wrong;
 use run_bytes::read_run;
+use run_bytes::spells_no_run;
 use run_bytes::write_run;
 use step_lines::is_letter;
 use step_lines::step_by;
@@ -33,7 +33,7 @@ pub fn run_outside(plan: Plan, run: &[u8]) -> bool
     ensures { λ r. ⌜ r ≡ runOutside plan (now (run .entry)) ⌝ }
 {
     let nodes = plan.nodes.0 as usize;
-    if numbers_wrong(run, nodes) {
+    if spells_no_run(run, nodes) {
         return true;
     }
     let state = read_run(run, nodes);
@@ -66,7 +66,7 @@ pub fn step_on(plan: Plan, run: &mut [u8], letter: u8, number: u32) -> u8
         return LINE_WRONG;
     }
     let nodes = plan.nodes.0 as usize;
-    if numbers_wrong(run, nodes) {
+    if spells_no_run(run, nodes) {
         return RUN_OUTSIDE;
     }
     let before = read_run(run, nodes);
@@ -100,7 +100,7 @@ pub fn reckon_on(plan: Plan, run: &[u8], node: u32, ticks: &mut [u8]) -> u8
     ensures { λ r. ⌜ now (ticks .exit) ≡ leaves r (reckonWrites plan (now (run .entry)) node (now (ticks .entry))) (now (ticks .entry)) ⌝ }
 {
     let nodes = plan.nodes.0 as usize;
-    if numbers_wrong(run, nodes) {
+    if spells_no_run(run, nodes) {
         return RUN_OUTSIDE;
     }
     let state = read_run(run, nodes);

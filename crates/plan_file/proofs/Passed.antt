@@ -12,7 +12,8 @@ use native.Mathlib.Omega.{arith}
 use Rattle.plan.specs.Tested.{planNumber}
 use Rattle.plan_file.specs.declared.Read.{Read}
 use Rattle.plan_file.specs.declared.Read.the-variants.{Taken}
-use Rattle.plan_file.specs.File.{byteAt, markWrong, lengthWrong, fileRows, fileNumber, planOf, takenOf, readOf}
+use Rattle.laws.specs.Bytes.{byteAt}
+use Rattle.plan_file.specs.File.{markWrong, lengthWrong, fileRows, fileNumber, planOf, takenOf, readOf}
 
 pub mark-long : (file : List ℕ) → markWrong file ≡ false → 5 ≤ length file
 unfolding markWrong

@@ -2,8 +2,9 @@
 use Prim.Native.Nat.{ℕ, _+_, _*_}
 use mathlib.Core.Bool.{Bool, cond, not, _||_}
 use mathlib.Core.List.{List, [], _∷_}
-use lib.ListN.{length, getD, replicate}
+use lib.ListN.{length, replicate}
 use lib.Dec.{eqb, ltb}
+use Rattle.laws.specs.Bytes.{byteAt}
 use Rattle.laws.specs.Row.{Row, given, firstOf}
 use Rattle.laws.specs.Over.{over}
 use Rattle.plan.specs.declared.Plan.{Plan}
@@ -12,10 +13,6 @@ use Rattle.plan.specs.Refusals.{not-a-plan-file, version-unknown, length-wrong}
 use Rattle.plan.specs.Tested.{planNumber}
 use Rattle.plan_file.specs.declared.Read.the-variants.{Taken, Refused}
 use Rattle.plan_file.specs.declared.PlanRead.{PlanRead}
-
--- The byte at a place; 0 past the end.
-abbrev pub byteAt : List ℕ → ℕ → ℕ
-byteAt file k = getD file k 0
 
 -- Numbers of 16 and 32 bits, big-endian.
 unfoldable pub be16Of : List ℕ → ℕ → ℕ

@@ -10,7 +10,8 @@ use plan::VERSION_UNKNOWN;
 ghost use mathlib.Core.Path.{_≡_};
 ghost use Prim.Native.Nat.{_+_, _*_, _≤_, _<_};
 ghost use lib.ListN.{length};
-ghost use Rattle.plan_file.specs.File.{byteAt, be16Of, be32Of, markWrong, lengthWrong, fileNumber, slotAt, slotsOf, planOf, noPlan, readOf};
+ghost use Rattle.laws.specs.Bytes.{byteAt};
+ghost use Rattle.plan_file.specs.File.{be16Of, be32Of, markWrong, lengthWrong, fileNumber, slotAt, slotsOf, planOf, noPlan, readOf};
 
 pub enum Read {
     Taken,

@@ -56,7 +56,7 @@ use Rattle.step_lines.proofs.reading_byte.Reads as reading-byte
 use Rattle.step_lines.proofs.reading_end.Reads as reading-end
 use Rattle.step_lines.proofs.read_line.Reads as read-line
 use Rattle.run_bytes.proofs.read_run.Reads as read-run
-use Rattle.run_bytes.proofs.numbers_wrong.Reads as numbers-wrong
+use Rattle.run_bytes.proofs.spells_no_run.Reads as spells-no-run
 use Rattle.run_bytes.proofs.put8.Reads as put8
 use Rattle.run_bytes.proofs.put16.Reads as put16
 use Rattle.run_bytes.proofs.put32.Reads as put32
@@ -281,8 +281,8 @@ read-line-one κ a x y l m p q = p ∙ sym q
 pub read-run-one : OneAnswer read-run.Post
 read-run-one κ a x y l m p q = p ∙ sym q
 
-pub numbers-wrong-one : OneAnswer numbers-wrong.Post
-numbers-wrong-one κ a x y l m p q = p ∙ sym q
+pub spells-no-run-one : OneAnswer spells-no-run.Post
+spells-no-run-one κ a x y l m p q = p ∙ sym q
 
 pub put8-one : OneLeft (λ κ l. now (l .0)) put8.Post
 put8-one κ a x y l m p q = p ∙ sym q

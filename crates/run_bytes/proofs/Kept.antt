@@ -11,11 +11,12 @@ use borrow.Author.Tests.{ltb-false, eq-eqb, ne-eqb}
 use Rattle.laws.proofs.Bools.{or-false-left, or-false-right, cond-by}
 use Rattle.laws.specs.Below.{anyBelow}
 use Rattle.laws.proofs.Belows.{any-not}
-use Rattle.plan_file.specs.File.{byteAt, be16Of, be32Of}
+use Rattle.laws.specs.Bytes.{byteAt}
+use Rattle.plan_file.specs.File.{be16Of, be32Of}
 use Rattle.run.specs.declared.Last.the-variants.{At, Nothing}
 use Rattle.run.specs.declared.Run.{Run}
 use Rattle.run.specs.State.{node}
-use Rattle.run_bytes.specs.RunBytes.{modeByte, modeIn, flagByte, nodeBytes, lastBytes, nodeIn, lastIn, runIn, nodesBytes, runBytes, nodeWrong, numbersWrong}
+use Rattle.run_bytes.specs.RunBytes.{modeByte, modeIn, flagByte, nodeBytes, lastBytes, nodeIn, lastIn, runIn, nodesBytes, runBytes, nodeWrong, spellsNoRun}
 use Rattle.run_bytes.proofs.Sets.{sets-same}
 use Rattle.run_bytes.proofs.RoundTrip.{LastFits, Holdable, node-read, fresh-read, length-read}
 
@@ -81,8 +82,8 @@ last-kept l b h p = go (ℕ-discrete (byteAt l 288) 0)
         rw (lastIn, ne-eqb _ 0 e) (sets-same l 0 288 (lastBytes (At (record { 0 = be16Of l 289 }))) (one, (omega arith, (omega arith, tt))))
 
 -- Writing what was read gives the bytes that were there.
-pub written-read : (N : ℕ) (l : List ℕ) → N ≤ 32 → AllBytes l → numbersWrong N l ≡ false → NonePlain l → runBytes N (runIn N l) l ≡ l
-unfolding runBytes runIn numbersWrong
+pub written-read : (N : ℕ) (l : List ℕ) → N ≤ 32 → AllBytes l → spellsNoRun N l ≡ false → NonePlain l → runBytes N (runIn N l) l ≡ l
+unfolding runBytes runIn spellsNoRun
 written-read N l few b h p =
     let wrong : ℕ → Bool = λ k. nodeWrong l (9 * k) in
     let right = any-not N wrong (or-false-left (anyBelow N wrong) (ltb 1 (byteAt l 288)) h) in

@@ -8,7 +8,8 @@ use native.Mathlib.Decide.{ℕ-discrete, decLt}
 use lib.ListN.{length, getD, replicate, length-replicate, getD-replicate}
 use lib.Seq.{sets, length-sets, ext-getD}
 use lib.Dec.{eqb}
-use Rattle.plan_file.specs.File.{byteAt, be16Of, be32Of}
+use Rattle.laws.specs.Bytes.{byteAt}
+use Rattle.plan_file.specs.File.{be16Of, be32Of}
 use Rattle.run.specs.declared.Mode.{Mode}
 use Rattle.run.specs.declared.Mode.the-variants.{Waiting, AboutToSend, Sending}
 use Rattle.run.specs.declared.Last.{Last}

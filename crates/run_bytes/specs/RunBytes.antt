@@ -8,7 +8,8 @@ use lib.Seq.{sets}
 use lib.Dec.{eqb, ltb}
 use Rattle.laws.specs.Below.{anyBelow}
 use Rattle.laws.specs.Over.{over}
-use Rattle.plan_file.specs.File.{byteAt, be16Of, be32Of}
+use Rattle.laws.specs.Bytes.{byteAt}
+use Rattle.plan_file.specs.File.{be16Of, be32Of}
 use Rattle.run.specs.declared.Mode.{Mode}
 use Rattle.run.specs.declared.Mode.the-variants.{Waiting, AboutToSend, Sending}
 use Rattle.run.specs.declared.Last.{Last}
@@ -74,5 +75,5 @@ unfoldable pub nodeWrong : List ℕ → ℕ → Bool
 nodeWrong bytes at = ltb 2 (byteAt bytes (at + 7)) || ltb 1 (byteAt bytes (at + 8))
 
 -- The same of the first N places, and of the last message's mark.
-unfoldable pub numbersWrong : ℕ → List ℕ → Bool
-numbersWrong N bytes = anyBelow N (λ k. nodeWrong bytes (9 * k)) || ltb 1 (byteAt bytes 288)
+unfoldable pub spellsNoRun : ℕ → List ℕ → Bool
+spellsNoRun N bytes = anyBelow N (λ k. nodeWrong bytes (9 * k)) || ltb 1 (byteAt bytes 288)

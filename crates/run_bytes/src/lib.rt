@@ -4,7 +4,7 @@ ghost use Prim.Native.Nat.{_+_, _*_, _≤_};
 ghost use lib.ListN.{length, set};
 ghost use lib.Seq.{sets};
 ghost use Rattle.run_bytes.specs.Numbers.{be16Bytes, be32Bytes, be64Bytes};
-ghost use Rattle.run_bytes.specs.RunBytes.{modeByte, modeIn, flagByte, nodeBytes, lastBytes, nodeIn, lastIn, runIn, runBytes, nodeWrong, numbersWrong};
+ghost use Rattle.run_bytes.specs.RunBytes.{modeByte, modeIn, flagByte, nodeBytes, lastBytes, nodeIn, lastIn, runIn, runBytes, nodeWrong, spellsNoRun};
 use plan::Slot;
 use plan::Tick;
 use plan::Time;
@@ -172,9 +172,9 @@ fn node_wrong(bytes: &[u8], at: usize) -> bool
 }
 
 // The bytes spell no run: no mode or no mark stands where one of the first places or the last message should have it.
-pub fn numbers_wrong(bytes: &[u8], nodes: usize) -> bool
+pub fn spells_no_run(bytes: &[u8], nodes: usize) -> bool
     requires { ⌜ (nodes ≤ 32) × (291 ≤ length (now bytes)) ⌝ }
-    ensures { λ r. ⌜ r ≡ numbersWrong nodes (now (bytes .entry)) ⌝ }
+    ensures { λ r. ⌜ r ≡ spellsNoRun nodes (now (bytes .entry)) ⌝ }
 {
     for k in 0..nodes {
         if node_wrong(bytes, 9 * k) {

@@ -18,14 +18,14 @@ lowestFrom P i f = record { 0 = firstFrom f (P .nodes .0 - i) i }
 
 -- The lowest of the nodes from i on: about to send, due of those who go first, of those who go next, of all.
 unfoldable pub seenFrom : Plan → Parts → Place → ℕ → Seen
-seenFrom P c q i =
+seenFrom P parts q i =
     record {
       about = lowestFrom P i (λ k. isAbout (node (q .run) k .mode));
-      first = lowestFrom P i (λ k. isDue P c q k && goesFirst P c (q .run) (q .mark) k);
-      second = lowestFrom P i (λ k. isDue P c q k && goesSecond c (q .mark) k);
-      due = lowestFrom P i (isDue P c q);
+      first = lowestFrom P i (λ k. isDue P parts q k && goesFirst P parts (q .run) (q .mark) k);
+      second = lowestFrom P i (λ k. isDue P parts q k && goesSecond parts (q .mark) k);
+      due = lowestFrom P i (isDue P parts q);
     }
 
 -- A time past due, or what was seen of all nodes.
 unfoldable pub lookedOf : Plan → Parts → Place → Looked
-lookedOf P c q = cond (pastDue P c q) PastDue (OnTime (seenFrom P c q 0))
+lookedOf P parts q = cond (pastDue P parts q) PastDue (OnTime (seenFrom P parts q 0))

@@ -32,17 +32,17 @@ freshPlace = record { run = freshRun; mark = Before }
 
 -- The time since tick at which node i is due: min, or, after the pivot, max for all but the fast node.
 unfoldable pub dueTime : Plan → Parts → Mark → ℕ → ℕ
-dueTime P c Before i = P .min .0
-dueTime P c In i = P .min .0
-dueTime P c After i = cond (eqb i (c .fast .0)) (P .min .0) (P .max .0)
+dueTime P parts Before i = P .min .0
+dueTime P parts In i = P .min .0
+dueTime P parts After i = cond (eqb i (parts .fast .0)) (P .min .0) (P .max .0)
 
 -- Node i is due.
 abbrev pub isDue : Plan → Parts → Place → ℕ → Bool
-isDue P c q i = eqb (node (q .run) i .time .0) (dueTime P c (q .mark) i)
+isDue P parts q i = eqb (node (q .run) i .time .0) (dueTime P parts (q .mark) i)
 
 -- Some node's time is past due.
 unfoldable pub pastDue : Plan → Parts → Place → Bool
-pastDue P c q = anyBelow (P .nodes .0) (λ i. ltb (dueTime P c (q .mark) i) (node (q .run) i .time .0))
+pastDue P parts q = anyBelow (P .nodes .0) (λ i. ltb (dueTime P parts (q .mark) i) (node (q .run) i .time .0))
 
 -- After a tick now node i would be about to send.
 abbrev pub turns : Plan → Run → ℕ → Bool
@@ -51,58 +51,58 @@ turns P r i = isAbout (modeAfter P (own P i) (node r i .clock .0) (node r i .slo
 -- Who ticks first of those due. Before the pivot: whom the tick doesn't make about to send.
 -- In it: neither the fast node nor the sender of p. After it: the fast node.
 unfoldable pub goesFirst : Plan → Parts → Run → Mark → ℕ → Bool
-goesFirst P c r Before i = not (turns P r i)
-goesFirst P c r In i = not (eqb i (c .fast .0)) && not (eqb i (c .sender .0))
-goesFirst P c r After i = eqb i (c .fast .0)
+goesFirst P parts r Before i = not (turns P r i)
+goesFirst P parts r In i = not (eqb i (parts .fast .0)) && not (eqb i (parts .sender .0))
+goesFirst P parts r After i = eqb i (parts .fast .0)
 
 -- Who ticks next: in the pivot all but the fast node, else all.
 unfoldable pub goesSecond : Parts → Mark → ℕ → Bool
-goesSecond c Before i = true
-goesSecond c In i = not (eqb i (c .fast .0))
-goesSecond c After i = true
+goesSecond parts Before i = true
+goesSecond parts In i = not (eqb i (parts .fast .0))
+goesSecond parts After i = true
 
 -- The lowest node about to send, and the lowest due of those who go first, of those who go next, of all; N where there is none.
 abbrev pub lowestAbout : Plan → Place → ℕ
 lowestAbout P q = firstBelow (P .nodes .0) (λ i. isAbout (node (q .run) i .mode))
 
 abbrev pub lowestFirst : Plan → Parts → Place → ℕ
-lowestFirst P c q = firstBelow (P .nodes .0) (λ i. isDue P c q i && goesFirst P c (q .run) (q .mark) i)
+lowestFirst P parts q = firstBelow (P .nodes .0) (λ i. isDue P parts q i && goesFirst P parts (q .run) (q .mark) i)
 
 abbrev pub lowestSecond : Plan → Parts → Place → ℕ
-lowestSecond P c q = firstBelow (P .nodes .0) (λ i. isDue P c q i && goesSecond c (q .mark) i)
+lowestSecond P parts q = firstBelow (P .nodes .0) (λ i. isDue P parts q i && goesSecond parts (q .mark) i)
 
 abbrev pub lowestDue : Plan → Parts → Place → ℕ
-lowestDue P c q = firstBelow (P .nodes .0) (isDue P c q)
+lowestDue P parts q = firstBelow (P .nodes .0) (isDue P parts q)
 
 -- The time to the first due moment.
 abbrev pub timeToDue : Plan → Parts → Place → ℕ
-timeToDue P c q =
-    leastBelow (P .max .0) (P .nodes .0) (λ i. dueTime P c (q .mark) i - node (q .run) i .time .0)
+timeToDue P parts q =
+    leastBelow (P .max .0) (P .nodes .0) (λ i. dueTime P parts (q .mark) i - node (q .run) i .time .0)
 
 -- The step: a node about to send sends; else a due node ticks, by these orders; else a delay to the first due moment.
 unfoldable pub nextStep : Plan → Parts → Place → Step
-nextStep P c q =
-    let wait : Step = Delay (record { 0 = timeToDue P c q }) in
-    let third : Step = cond (ltb (lowestDue P c q) (P .nodes .0)) (TickOf (record { 0 = lowestDue P c q })) wait in
-    let second : Step = cond (ltb (lowestSecond P c q) (P .nodes .0)) (TickOf (record { 0 = lowestSecond P c q })) third in
-    let first : Step = cond (ltb (lowestFirst P c q) (P .nodes .0)) (TickOf (record { 0 = lowestFirst P c q })) second in
+nextStep P parts q =
+    let wait : Step = Delay (record { 0 = timeToDue P parts q }) in
+    let third : Step = cond (ltb (lowestDue P parts q) (P .nodes .0)) (TickOf (record { 0 = lowestDue P parts q })) wait in
+    let second : Step = cond (ltb (lowestSecond P parts q) (P .nodes .0)) (TickOf (record { 0 = lowestSecond P parts q })) third in
+    let first : Step = cond (ltb (lowestFirst P parts q) (P .nodes .0)) (TickOf (record { 0 = lowestFirst P parts q })) second in
     cond (ltb (lowestAbout P q) (P .nodes .0)) (SendOf (record { 0 = lowestAbout P q })) first
 
 -- The sender of p waits in p with clock g − 1.
 abbrev pub pivotNext : Plan → Parts → Run → Bool
-pivotNext P c r =
-    isWaiting (node r (c .sender .0) .mode)
-    && guardEnds P (c .p .0) (node r (c .sender .0) .clock .0) (node r (c .sender .0) .slot .0)
+pivotNext P parts r =
+    isWaiting (node r (parts .sender .0) .mode)
+    && guardEnds P (parts .p .0) (node r (parts .sender .0) .clock .0) (node r (parts .sender .0) .slot .0)
 
 -- The mark after a step: "in" with a delay while the pivot is next, "after" with the fast node's tick in the pivot.
 unfoldable pub markAfter : Plan → Parts → Run → Mark → Step → Mark
-markAfter P c r Before s = cond (isDelay s && pivotNext P c r) In Before
-markAfter P c r In s = cond (isTickOf (c .fast .0) s) After In
-markAfter P c r After s = After
+markAfter P parts r Before s = cond (isDelay s && pivotNext P parts r) In Before
+markAfter P parts r In s = cond (isTickOf (parts .fast .0) s) After In
+markAfter P parts r After s = After
 
 -- The place after a step.
 abbrev pub placeAfter : Plan → Parts → Place → Step → Place
-placeAfter P c q s = record { run = moved P (q .run) s; mark = markAfter P c (q .run) (q .mark) s }
+placeAfter P parts q s = record { run = moved P (q .run) s; mark = markAfter P parts (q .run) (q .mark) s }
 
 -- No step: the answer, and the place as it was.
 abbrev pub stays : Next → Place → Given
@@ -111,11 +111,11 @@ stays n q = record { next = n; place = q }
 -- The next step where the plan passed 1 to 9, fails a rule with these parts, and the place passed 10.
 -- Finished: out of step, a time past due, or a step that would not be legal.
 unfoldable pub givenBy : Plan → Parts → Place → Given
-givenBy P c q =
-    let s : Step = nextStep P c q in
+givenBy P parts q =
+    let s : Step = nextStep P parts q in
     let takes : Given =
-    cond (eqb (stepNumber P (q .run) s) 0) (record { next = Takes s; place = placeAfter P c q s }) (stays Finished q) in
-    cond (outOfStep P (q .run) || pastDue P c q) (stays Finished q) takes
+    cond (eqb (stepNumber P (q .run) s) 0) (record { next = Takes s; place = placeAfter P parts q s }) (stays Finished q) in
+    cond (outOfStep P (q .run) || pastDue P parts q) (stays Finished q) takes
 
 -- The same by the verdict: an accepted plan has no shown run.
 unfoldable pub givenFor : Plan → Outcome → Place → Given

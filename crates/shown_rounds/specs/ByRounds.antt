@@ -22,26 +22,26 @@ use Rattle.shown_rounds.specs.Moments.{moments, untilOut}
 
 -- The steps of k rounds, of the pivot after them, and of n moments after the pivot.
 abbrev pub told : Plan → Parts → (k n : ℕ) → List Step
-told P c k n = throughPivot P c k ++ moments P c n 0 (runAfter P freshRun (throughPivot P c k))
+told P parts k n = throughPivot P parts k ++ moments P parts n 0 (runAfter P freshRun (throughPivot P parts k))
 
 -- The place after k rounds and the pivot.
 abbrev pub pivotEnd : Plan → Parts → ℕ → Place
-pivotEnd P c k = placeAt P (length (throughPivot P c k)) freshPlace
+pivotEnd P parts k = placeAt P (length (throughPivot P parts k)) freshPlace
 
 -- So many rounds come before the pivot, the round in which the sender of p is about to send for the first time; with it p·k0 + g.
 -- The shown run gives them and the pivot whole. At the pivot's end the mark is "after" and every node has just ticked, so that
 -- a time since tick counts from the pivot. The first n steps of the shown run, for every n, are the first n of the rounds, the
 -- pivot and the moments after it (n moments have n steps or more), up to the first out-of-step state.
-pub record ByRounds (P : Plan) (c : Parts) : Type 0 where
+pub record ByRounds (P : Plan) (parts : Parts) : Type 0 where
   pub rounds : ℕ
-  pub now : turns P (afterRounds P rounds) (c .sender .0) ≡ true
-  pub not-before : (k : ℕ) → k < rounds → turns P (afterRounds P k) (c .sender .0) ≡ false
-  pub count : rounds + 1 ≡ c .p .0 * P .ticks .0 + P .guard .0
-  pub through : shownSteps P (length (throughPivot P c rounds)) freshPlace ≡ throughPivot P c rounds
-  pub run : pivotEnd P c rounds .run ≡ runAfter P freshRun (throughPivot P c rounds)
-  pub mark : pivotEnd P c rounds .mark ≡ After
-  pub times : (i : ℕ) → i < P .nodes .0 → node (pivotEnd P c rounds .run) i .time .0 ≡ 0
-  pub whole : (n : ℕ) → shownSteps P n freshPlace ≡ take n (untilOut P freshRun (told P c rounds n))
+  pub now : turns P (afterRounds P rounds) (parts .sender .0) ≡ true
+  pub not-before : (k : ℕ) → k < rounds → turns P (afterRounds P k) (parts .sender .0) ≡ false
+  pub count : rounds + 1 ≡ parts .p .0 * P .ticks .0 + P .guard .0
+  pub through : shownSteps P (length (throughPivot P parts rounds)) freshPlace ≡ throughPivot P parts rounds
+  pub run : pivotEnd P parts rounds .run ≡ runAfter P freshRun (throughPivot P parts rounds)
+  pub mark : pivotEnd P parts rounds .mark ≡ After
+  pub times : (i : ℕ) → i < P .nodes .0 → node (pivotEnd P parts rounds .run) i .time .0 ≡ 0
+  pub whole : (n : ℕ) → shownSteps P n freshPlace ≡ take n (untilOut P freshRun (told P parts rounds n))
 
 -- The claim: so for a plan that 1 to 9 let through and whose verdict names a failed rule, with that rule's parts.
 abbrev pub ShownByRounds : Plan → Type 0

@@ -23,18 +23,18 @@ acts P r i = cond (turns P r i) (ticksAndSends i) (ticks i)
 
 -- What is done at the moment y: the fast node goes first, the others in number order.
 unfoldable pub atMoment : Plan → Parts → Run → ℕ → List Step
-atMoment P c r y =
-    cond (eqb (y % P .min .0) 0) (acts P r (c .fast .0)) []
-    ++ cond (eqb (y % P .max .0) 0) (inOrder P (λ i. not (eqb i (c .fast .0))) (acts P r)) []
+atMoment P parts r y =
+    cond (eqb (y % P .min .0) 0) (acts P r (parts .fast .0)) []
+    ++ cond (eqb (y % P .max .0) 0) (inOrder P (λ i. not (eqb i (parts .fast .0))) (acts P r)) []
 
 -- The delay from y to the nearest moment, and what is done there.
 unfoldable pub nextMoment : Plan → Parts → Run → ℕ → List Step
-nextMoment P c r y = Delay (record { 0 = toNearest P y }) ∷ atMoment P c r (y + toNearest P y)
+nextMoment P parts r y = Delay (record { 0 = toNearest P y }) ∷ atMoment P parts r (y + toNearest P y)
 
 -- The next k moments after y, each on the run that the one before it leaves.
 unfoldable pub moments : Plan → Parts → (k y : ℕ) → Run → List Step
-moments P c zero y r = []
-moments P c (suc k) y r = nextMoment P c r y ++ moments P c k (y + toNearest P y) (runAfter P r (nextMoment P c r y))
+moments P parts zero y r = []
+moments P parts (suc k) y r = nextMoment P parts r y ++ moments P parts k (y + toNearest P y) (runAfter P r (nextMoment P parts r y))
 
 -- The steps up to the first out-of-step state.
 unfoldable pub untilOut : Plan → Run → List Step → List Step

@@ -36,12 +36,12 @@ roundBefore P r = Delay (P .min) ∷ inOrder P (λ i. not (turns P r i)) ticks +
 
 -- Node i is neither the fast node nor the sender of p.
 abbrev pub neither : Parts → ℕ → Bool
-neither c i = not (eqb i (c .fast .0)) && not (eqb i (c .sender .0))
+neither parts i = not (eqb i (parts .fast .0)) && not (eqb i (parts .sender .0))
 
 -- The pivot: a delay of min; all nodes but the fast one and the sender of p tick in number order; the sender of p ticks and
 -- sends; the fast node ticks.
 unfoldable pub pivotRound : Plan → Parts → List Step
-pivotRound P c = Delay (P .min) ∷ inOrder P (neither c) ticks ++ ticksAndSends (c .sender .0) ++ ticks (c .fast .0)
+pivotRound P parts = Delay (P .min) ∷ inOrder P (neither parts) ticks ++ ticksAndSends (parts .sender .0) ++ ticks (parts .fast .0)
 
 -- k rounds before the pivot, each on the run that the one before it leaves.
 unfoldable pub roundsBefore : Plan → ℕ → Run → List Step
@@ -54,4 +54,4 @@ afterRounds P k = runAfter P freshRun (roundsBefore P k freshRun)
 
 -- The steps of k rounds and of the pivot after them.
 abbrev pub throughPivot : Plan → Parts → ℕ → List Step
-throughPivot P c k = roundsBefore P k freshRun ++ pivotRound P c
+throughPivot P parts k = roundsBefore P k freshRun ++ pivotRound P parts

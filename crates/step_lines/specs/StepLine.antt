@@ -2,18 +2,15 @@
 use Prim.Native.Nat.{ℕ, zero, suc, _+_, _*_, _-_}
 use mathlib.Core.Bool.{Bool, cond, not, _&&_, _||_}
 use mathlib.Core.List.{List}
-use lib.ListN.{length, getD}
+use lib.ListN.{length}
 use lib.Dec.{eqb, leb}
+use Rattle.laws.specs.Bytes.{byteAt}
 use Rattle.laws.specs.Below.{allBelow}
 use Rattle.plan.specs.Refusals.{line-wrong}
 use Rattle.run.specs.declared.Step.{Step}
 use Rattle.run.specs.declared.Step.the-variants.{Delay, TickOf, SendOf}
 use Rattle.step_lines.specs.declared.Line.{Line}
 use Rattle.step_lines.specs.declared.Line.the-variants.{Asks, Refused}
-
--- The byte at a place of the line; 0 past its end.
-abbrev pub byteOf : List ℕ → ℕ → ℕ
-byteOf line k = getD line k 0
 
 -- A decimal digit.
 abbrev pub isDigit : ℕ → Bool
@@ -22,7 +19,7 @@ isDigit b = leb 48 b && leb b 57
 -- The number that the first n digits from place 2 on spell.
 unfoldable pub spelled : List ℕ → ℕ → ℕ
 spelled line zero = 0
-spelled line (suc n) = spelled line n * 10 + (byteOf line (2 + n) - 48)
+spelled line (suc n) = spelled line n * 10 + (byteAt line (2 + n) - 48)
 
 -- How many bytes stand between the blank and the newline.
 abbrev pub digitCount : List ℕ → ℕ
@@ -37,11 +34,11 @@ isLetter b = eqb b 68 || eqb b 84 || eqb b 83
 unfoldable pub lineShaped : List ℕ → Bool
 lineShaped line =
     leb 4 (length line)
-    && isLetter (byteOf line 0)
-    && eqb (byteOf line 1) 32
-    && eqb (byteOf line (length line - 1)) 10
-    && allBelow (digitCount line) (λ k. isDigit (byteOf line (2 + k)))
-    && (eqb (digitCount line) 1 || not (eqb (byteOf line 2) 48))
+    && isLetter (byteAt line 0)
+    && eqb (byteAt line 1) 32
+    && eqb (byteAt line (length line - 1)) 10
+    && allBelow (digitCount line) (λ k. isDigit (byteAt line (2 + k)))
+    && (eqb (digitCount line) 1 || not (eqb (byteAt line 2) 48))
 
 -- The step that a letter and a number ask for: D a delay, T a tick, S a send; what is no letter counts as S.
 abbrev pub stepBy : (letter n : ℕ) → Step
@@ -51,5 +48,5 @@ stepBy letter n = cond (eqb letter 68) (Delay (record { 0 = n })) (cond (eqb let
 unfoldable pub lineOf : List ℕ → Line
 lineOf line =
     cond (lineShaped line && leb (spelled line (digitCount line)) 4294967295)
-    (Asks (stepBy (byteOf line 0) (spelled line (digitCount line))))
+    (Asks (stepBy (byteAt line 0) (spelled line (digitCount line))))
     (Refused line-wrong)

@@ -18,12 +18,12 @@ use Rattle.byte_calls.proofs.runs.reckon_on.Tie as tie
 cast-nodes : tie.Need-cast-nodes
 cast-nodes c = search needs
 
-numbers-wrong-requires : tie.Need-numbers-wrong-requires
-numbers-wrong-requires c κs = let s = sound _ (c .before .before .before .pre .0) in (s .nodes-high, omega arith)
+spells-no-run-requires : tie.Need-spells-no-run-requires
+spells-no-run-requires c κs = let s = sound _ (c .before .before .before .pre .0) in (s .nodes-high, omega arith)
 
 returns : tie.Need-returns
 unfolding reckonTests
-returns c = (first-here (given run-outside _) _ (sym (c .before .numbers-wrong .ensures) ∙ c .if1 .taken), outside-leaves _ _)
+returns c = (first-here (given run-outside _) _ (sym (c .before .spells-no-run .ensures) ∙ c .if1 .taken), outside-leaves _ _)
 
 read-run-requires : tie.Need-read-run-requires
 read-run-requires c κs = let s = sound _ (c .before .before .before .before .before .pre .0) in (s .nodes-high, omega arith)
@@ -49,7 +49,7 @@ returns-2 c =
     let d : c .before .before .before .before .before .reckon-tested .result ≡ x =
     rw (c .before .before .before .before .before .reckon-tested .ensures, c .before .before .before .before .before .before .read-run .ensures) in
     let m : c .reckoned-number .result ≡ reckonedNumber x = rw (c .reckoned-number .ensures, d) in (
-      m ∙ refused-last (reckonedNumber x) ∙ sym (first-next (given run-outside _) _ (sym (c .before .before .before .before .before .before .before .before .numbers-wrong .ensures) ∙ c .before .before .before .before .before .before .before .if1 .left)),
+      m ∙ refused-last (reckonedNumber x) ∙ sym (first-next (given run-outside _) _ (sym (c .before .before .before .before .before .before .before .before .spells-no-run .ensures) ∙ c .before .before .before .before .before .before .before .if1 .left)),
       rw (c .before .before .before .write-ticks .ensures, m, d) (ticks-leaves x b),
     )
 
@@ -58,7 +58,7 @@ reckon-on-spec =
     tie.close
     (tie.spec
     cast-nodes
-    numbers-wrong-requires
+    spells-no-run-requires
     returns
     read-run-requires
     reckon-tested-requires

@@ -11,12 +11,12 @@ use Rattle.byte_calls.proofs.runs.run_outside.Tie as tie
 cast-nodes : tie.Need-cast-nodes
 cast-nodes c = search needs
 
-numbers-wrong-requires : tie.Need-numbers-wrong-requires
-numbers-wrong-requires c κs = let s = sound _ (c .before .before .pre .0) in (s .nodes-high, omega arith)
+spells-no-run-requires : tie.Need-spells-no-run-requires
+spells-no-run-requires c κs = let s = sound _ (c .before .before .pre .0) in (s .nodes-high, omega arith)
 
 returns : tie.Need-returns
 unfolding runOutside
-returns c = sym (or-true-left _ _ (sym (c .before .numbers-wrong .ensures) ∙ c .if1 .taken))
+returns c = sym (or-true-left _ _ (sym (c .before .spells-no-run .ensures) ∙ c .if1 .taken))
 
 read-run-requires : tie.Need-read-run-requires
 read-run-requires c κs = let s = sound _ (c .before .before .before .before .pre .0) in (s .nodes-high, omega arith)
@@ -26,14 +26,14 @@ in-range-requires c κs = sound _ (c .before .before .before .before .before .pr
 
 returns-2 : tie.Need-returns-2
 unfolding runOutside
-returns-2 c = rw (c .in-range .ensures, c .before .read-run .ensures, sym (c .before .before .before .numbers-wrong .ensures) ∙ c .before .before .if1 .left)
+returns-2 c = rw (c .in-range .ensures, c .before .read-run .ensures, sym (c .before .before .before .spells-no-run .ensures) ∙ c .before .before .if1 .left)
 
 pub run-outside-spec : {M : Type 1} → statement M
 run-outside-spec =
     tie.close
     (tie.spec
     cast-nodes
-    numbers-wrong-requires
+    spells-no-run-requires
     returns
     read-run-requires
     in-range-requires

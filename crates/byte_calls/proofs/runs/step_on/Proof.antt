@@ -30,8 +30,8 @@ returns c =
 cast-nodes : tie.Need-cast-nodes
 cast-nodes c = search needs
 
-numbers-wrong-requires : tie.Need-numbers-wrong-requires
-numbers-wrong-requires c κs = let s = sound _ (c .before .before .before .before .before .pre .0) in (s .nodes-high, omega arith)
+spells-no-run-requires : tie.Need-spells-no-run-requires
+spells-no-run-requires c κs = let s = sound _ (c .before .before .before .before .before .pre .0) in (s .nodes-high, omega arith)
 
 same-length : tie.Need-same-length
 same-length c = search needs
@@ -40,7 +40,7 @@ returns-2 : tie.Need-returns-2
 unfolding stepTests
 returns-2 c =
     let l = sym (c .before .before .before .before .before .is-letter .ensures) ∙ not-false (c .before .before .before .before .before .is-letter .result) (c .before .before .before .before .if1 .left) in
-    let w = sym (c .before .numbers-wrong .ensures) ∙ c .if2 .taken in
+    let w = sym (c .before .spells-no-run .ensures) ∙ c .if2 .taken in
     (first-here (given run-outside _) _ w ∙ sym (first-next (given line-wrong _) _ (ap not l)), outside-leaves _ _)
 
 read-run-requires : tie.Need-read-run-requires
@@ -63,7 +63,7 @@ unfolding stepTests
 returns-3 c =
     let a = c .before .before .before .before .before .before .before .before .before .before .before .before .before .before .before .args in
     let l = sym (c .before .before .before .before .before .before .before .before .before .before .before .before .before .is-letter .ensures) ∙ not-false (c .before .before .before .before .before .before .before .before .before .before .before .before .before .is-letter .result) (c .before .before .before .before .before .before .before .before .before .before .before .before .if1 .left) in
-    let right = sym (c .before .before .before .before .before .before .before .before .before .numbers-wrong .ensures) ∙ c .before .before .before .before .before .before .before .before .if2 .left in
+    let right = sym (c .before .before .before .before .before .before .before .before .before .spells-no-run .ensures) ∙ c .before .before .before .before .before .before .before .before .if2 .left in
     let x : Stepped = stepTested (a .plan) (runFor (a .plan) (now (a .run))) (stepBy (a .letter) (a .number)) in
     let d : c .before .before .before .step-tested .result ≡ x =
     rw (c .before .before .before .step-tested .ensures, c .before .before .before .before .before .before .read-run .ensures, c .before .before .before .before .step-by .ensures) in
@@ -80,7 +80,7 @@ step-on-spec =
     is-letter-requires
     returns
     cast-nodes
-    numbers-wrong-requires
+    spells-no-run-requires
     same-length
     returns-2
     read-run-requires

@@ -1,5 +1,5 @@
 -- None of the first k places is wrong; one that is found is one of all.
-use Rattle.run_bytes.specs.RunBytes.{nodeWrong, numbersWrong}
+use Rattle.run_bytes.specs.RunBytes.{nodeWrong, spellsNoRun}
 use Rattle.laws.specs.Below.{anyBelow}
 use Rattle.laws.proofs.Belows.{any-none, any-more, any-found}
 use mathlib.Core.Bool.{false}
@@ -8,8 +8,8 @@ use native.Mathlib.Omega.{arith}
 use mathlib.Core.Path.{_≡_, sym, ap, _∙_}
 use Prim.Native.Nat.{ℕ, _≤_, _-_, _*_}
 use borrow.Author.Needs.{needs}
-use Rattle.run_bytes.proofs.numbers_wrong.Statement.{statement}
-use Rattle.run_bytes.proofs.numbers_wrong.Tie as tie
+use Rattle.run_bytes.proofs.spells_no_run.Statement.{statement}
+use Rattle.run_bytes.proofs.spells_no_run.Tie as tie
 
 abbrev Inv-loop : tie.InvT-loop
 Inv-loop bytes nodes k₀ k = (k ≤ nodes) × (anyBelow k (λ j. nodeWrong bytes (9 * j)) ≡ false)
@@ -27,7 +27,7 @@ node-wrong-requires : tie.Need-node-wrong-requires Inv-loop μ-loop
 node-wrong-requires c κs = search needs
 
 returns : tie.Need-returns Inv-loop μ-loop
-unfolding numbersWrong
+unfolding spellsNoRun
 returns c =
     let a = c .before .before .before .before .before .args in
     let found = any-found (a .nodes) (c .before .before .before .loop .k) (λ (j : ℕ). nodeWrong (now (a .bytes)) (9 * j)) (search needs) (sym (c .before .node-wrong .ensures) ∙ c .if1 .taken) in
@@ -46,7 +46,7 @@ shared-slice-read-result : tie.Need-shared-slice-read-result Inv-loop μ-loop
 shared-slice-read-result c = search needs
 
 returns-2 : tie.Need-returns-2 Inv-loop μ-loop
-unfolding numbersWrong
+unfolding spellsNoRun
 returns-2 c =
     let a = c .before .before .before .before .args in
     let l = c .before .before .loop in
@@ -54,8 +54,8 @@ returns-2 c =
     let none : anyBelow (a .nodes) (λ (j : ℕ). nodeWrong (now (a .bytes)) (9 * j)) ≡ false = ap (λ (n : ℕ). anyBelow n (λ (j : ℕ). nodeWrong (now (a .bytes)) (9 * j))) e ∙ l .inv .1 in
     rw none
 
-pub numbers-wrong-spec : {M : Type 1} → statement M
-numbers-wrong-spec =
+pub spells-no-run-spec : {M : Type 1} → statement M
+spells-no-run-spec =
     tie.close
     (tie.spec
     Inv-loop
