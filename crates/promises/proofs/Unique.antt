@@ -1,4 +1,5 @@
--- Every public function's own contract leaves one answer, and one content of what was lent: all of them, by crate.
+-- Every public function's own contract leaves one answer, and one content of what was lent: all of them but `judging::tell`, which promises
+-- nothing, by crate.
 use Prim.Native.Nat.{ℕ}
 use mathlib.Core.Path.{_≡_, sym, ap, _∙_}
 use denote.Ref.{now}
