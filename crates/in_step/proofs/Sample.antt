@@ -21,11 +21,11 @@ use Rattle.run.specs.declared.Last.the-variants.{At}
 use Rattle.run.specs.declared.Mode.the-variants.{Sending}
 use Rattle.run.specs.declared.Run.{Run}
 use Rattle.run.specs.declared.Step.{Step}
-use Rattle.run.specs.declared.Step.the-variants.{Delay, TickOf, SendOf}
 use Rattle.run.specs.State.{node, freshRun, inRange, sendsApart, outOfStep}
 use Rattle.run.specs.Moves.{clockAfter, modeAfter, slotAfter}
 use Rattle.run.specs.Steps.{stepNumber, stepTested, stepOf, Legal, runAfter}
 use Rattle.run.specs.Reckoning.{timeSince}
+use Rattle.run.proofs.Letters.{D, T, S}
 use Rattle.in_step.specs.InStep.{InStep}
 use Rattle.in_step.proofs.Stays.{stays-in-step}
 
@@ -42,15 +42,6 @@ unfolding sample anyBelow largestBelow distance sends nearest predecessor distan
 accepted = refl
 
 -- rounds: a delay of min, and a tick of every node, in number order; a node that becomes about to send sends at once
-
-D : ℕ → Step
-D n = Delay (record { 0 = n })
-
-T : ℕ → Step
-T n = TickOf (record { 0 = n })
-
-S : ℕ → Step
-S n = SendOf (record { 0 = n })
 
 quiet : ℕ → List Step
 quiet zero = []
@@ -105,7 +96,7 @@ pub record GoesRound : Type 0 where
   pub sending : node (runAfter sample freshRun (frame ++ anew)) 0 .mode ≡ Sending
 
 pub goes-round : GoesRound
-unfolding sample D T S quiet by-0 by-1 by-2 frame anew isDone allDone firstOf anyBelow allBelow over sends planNumber activeOutside guardOrTailWrong minOrMaxWrong someNotActive sharesSlot someShared freshRun inRange sendsApart outOfStep clockAfter modeAfter slotAfter stepNumber stepTested stepOf
+unfolding sample quiet by-0 by-1 by-2 frame anew isDone allDone firstOf anyBelow allBelow over sends planNumber activeOutside guardOrTailWrong minOrMaxWrong someNotActive sharesSlot someShared freshRun inRange sendsApart outOfStep clockAfter modeAfter slotAfter stepNumber stepTested stepOf
 goes-round = record { done = refl; last-slot = refl; last-message = refl; first-slot = refl; new-message = refl; sending = refl }
 
 pub sample-in-step : InStep sample (runAfter sample freshRun (frame ++ anew)) (timeSince 0 (frame ++ anew))

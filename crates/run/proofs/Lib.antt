@@ -3,3 +3,4 @@ pub mod Nodes
 pub mod Legal
 pub mod Ranges
 pub mod Apartness
+pub mod Letters

@@ -34,6 +34,9 @@ module _ (P : Plan) (c : Parts) (q : Place) where
   abbrev pub Due : ℕ → Type 0
   Due i = node (q .run) i .time .0 ≡ dueTime P c (q .mark) i
 
+  pub due-is : (i : ℕ) → isDue P c q i ≡ true → Due i
+  due-is i e = eqb-true (node (q .run) i .time .0) (dueTime P c (q .mark) i) e
+
   -- nobody who is due goes first, or next
   abbrev pub NoneFirst : Type 0
   NoneFirst = (j : ℕ) → j < P .nodes .0 → Due j → goesFirst P c (q .run) (q .mark) j ≡ false
@@ -113,7 +116,7 @@ module _ (P : Plan) (c : Parts) (o : Sound P) (q : Place) where
       (λ e.
       let m = none-of second (first-is-none (P .nodes .0) (λ i. isDue P c q i && second i) e) in
       cond-by (Move P c q) (ltb (lowestDue P c q) (P .nodes .0)) _ _
-      (λ e. record { below = ltb-true (lowestDue P c q) (P .nodes .0) e; quiet = a; due = due-is (lowestDue P c q) (first-is (P .nodes .0) (isDue P c q) e); turn = goes-third n m })
+      (λ e. record { below = ltb-true (lowestDue P c q) (P .nodes .0) e; quiet = a; due = due-is P c q (lowestDue P c q) (first-is (P .nodes .0) (isDue P c q) e); turn = goes-third n m })
       (λ e. wait a (first-is-none (P .nodes .0) (isDue P c q) e)))))
     where
       about : ℕ → Bool
@@ -125,9 +128,6 @@ module _ (P : Plan) (c : Parts) (o : Sound P) (q : Place) where
       second : ℕ → Bool
       second i = goesSecond c (q .mark) i
 
-      due-is : (i : ℕ) → isDue P c q i ≡ true → Due P c q i
-      due-is i e = eqb-true (node (q .run) i .time .0) (dueTime P c (q .mark) i) e
-
       none-of : (f : ℕ → Bool) → ((j : ℕ) → j < P .nodes .0 → (isDue P c q j && f j) ≡ false) → (j : ℕ) → j < P .nodes .0 → Due P c q j → f j ≡ false
       none-of f h j l d = rw (eq-eqb (node (q .run) j .time .0) (dueTime P c (q .mark) j) d) at (h j l)
 
@@ -136,7 +136,7 @@ module _ (P : Plan) (c : Parts) (o : Sound P) (q : Place) where
       tick f turn a e =
           let i = firstBelow (P .nodes .0) (λ i. isDue P c q i && f i) in
           let both = first-is (P .nodes .0) (λ i. isDue P c q i && f i) e in
-          record { below = ltb-true i (P .nodes .0) e; quiet = a; due = due-is i (and-true-left (isDue P c q i) (f i) both); turn = turn i (and-true-right (isDue P c q i) (f i) both) }
+          record { below = ltb-true i (P .nodes .0) e; quiet = a; due = due-is P c q i (and-true-left (isDue P c q i) (f i) both); turn = turn i (and-true-right (isDue P c q i) (f i) both) }
 
       wait : Quiet P q → ((j : ℕ) → j < P .nodes .0 → isDue P c q j ≡ false) → DelayMove P c q (timeToDue P c q)
       wait a none-due =

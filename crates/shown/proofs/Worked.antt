@@ -15,21 +15,12 @@ use Rattle.plan.specs.Tested.{activeOutside, guardOrTailWrong, minOrMaxWrong, s
 use Rattle.gap.specs.Gap.{nearest, predecessor, distanceBefore, gapOf}
 use Rattle.rules.specs.Rules.{sidesAt, outcomeBy, verdictAt, verdictOf}
 use Rattle.run.specs.declared.Step.{Step}
-use Rattle.run.specs.declared.Step.the-variants.{Delay, TickOf, SendOf}
 use Rattle.run.specs.State.{freshRun, inRange, sendsApart, outOfStep}
 use Rattle.run.specs.Moves.{clockAfter, modeAfter, slotAfter}
 use Rattle.run.specs.Steps.{stepNumber}
+use Rattle.run.proofs.Letters.{D, T, S}
 use Rattle.shown.specs.Parts.{predecessorAt, widestFrom, widestNode, partsFor}
 use Rattle.shown.specs.Shown.{freshPlace, dueTime, pastDue, goesFirst, goesSecond, nextStep, markAfter, givenBy, givenFor, givenOf, shownSteps}
-
-D : ℕ → Step
-D n = Delay (record { 0 = n })
-
-T : ℕ → Step
-T n = TickOf (record { 0 = n })
-
-S : ℕ → Step
-S n = SendOf (record { 0 = n })
 
 -- A plan, and the steps of its whole shown run.
 record Shown : Type 0 where
@@ -74,5 +65,5 @@ Right [] = Unit {0}
 Right (w ∷ more) = (shownSteps (w .plan) (length (w .steps) + 10) freshPlace ≡ w .steps) × Right more
 
 worked-right : Right worked
-unfolding D T S shown worked Right firstOf anyBelow allBelow firstFrom largestBelow leastBelow over distance sends activeOutside guardOrTailWrong minOrMaxWrong someNotActive sharesSlot someShared planNumber nearest predecessor distanceBefore gapOf sidesAt outcomeBy verdictAt verdictOf freshRun inRange sendsApart outOfStep clockAfter modeAfter slotAfter stepNumber predecessorAt widestFrom widestNode partsFor freshPlace dueTime pastDue goesFirst goesSecond nextStep markAfter givenBy givenFor givenOf
+unfolding shown worked Right firstOf anyBelow allBelow firstFrom largestBelow leastBelow over distance sends activeOutside guardOrTailWrong minOrMaxWrong someNotActive sharesSlot someShared planNumber nearest predecessor distanceBefore gapOf sidesAt outcomeBy verdictAt verdictOf freshRun inRange sendsApart outOfStep clockAfter modeAfter slotAfter stepNumber predecessorAt widestFrom widestNode partsFor freshPlace dueTime pastDue goesFirst goesSecond nextStep markAfter givenBy givenFor givenOf
 worked-right = (refl, (refl, (refl, (refl, (refl, (refl, (refl, tt)))))))

@@ -3,7 +3,7 @@ use Prim.Native.Nat.{ℕ, _<_}
 use mathlib.Core.Path.{_≡_}
 use mathlib.Core.Bool.{Bool, true, false, _&&_}
 use native.Mathlib.Omega.{arith}
-use borrow.Author.Tests.{eqb-true, eq-eqb, lt-ltb, le-ltb}
+use borrow.Author.Tests.{eq-eqb, lt-ltb, le-ltb}
 use lib.Dec.{ltb}
 use Rattle.laws.proofs.Bools.{not-so, and-both, and-true-left, and-true-right, clash}
 use Rattle.laws.proofs.Belows.{first-at, first-none}
@@ -13,21 +13,18 @@ use Rattle.run.specs.State.{node, isAbout}
 use Rattle.shown.specs.declared.Place.{Place}
 use Rattle.shown.specs.declared.Parts.{Parts}
 use Rattle.shown.specs.Shown.{dueTime, isDue, goesFirst, goesSecond, lowestAbout, lowestFirst, lowestSecond, lowestDue, timeToDue, nextStep}
-use Rattle.shown.proofs.Play.{Quiet, Due, NoneFirst, NoneSecond}
+use Rattle.shown.proofs.Play.{Quiet, Due, due-is, NoneFirst, NoneSecond}
 
 module _ (P : Plan) (c : Parts) (q : Place) where
   -- nobody is due
   abbrev pub NoneDue : Type 0
   NoneDue = (k : ℕ) → k < P .nodes .0 → Due P c q k → ⊥
 
-  due-is : (k : ℕ) → isDue P c q k ≡ true → Due P c q k
-  due-is k e = eqb-true (node (q .run) k .time .0) (dueTime P c (q .mark) k) e
-
   is-due : (k : ℕ) → Due P c q k → isDue P c q k ≡ true
   is-due k e = eq-eqb (node (q .run) k .time .0) (dueTime P c (q .mark) k) e
 
   not-both : (f : ℕ → Bool) (k : ℕ) → (Due P c q k → f k ≡ false) → (isDue P c q k && f k) ≡ false
-  not-both f k h = not-so (isDue P c q k && f k) (λ e. clash (f k) (and-true-right (isDue P c q k) (f k) e) (h (due-is k (and-true-left (isDue P c q k) (f k) e))))
+  not-both f k h = not-so (isDue P c q k && f k) (λ e. clash (f k) (and-true-right (isDue P c q k) (f k) e) (h (due-is P c q k (and-true-left (isDue P c q k) (f k) e))))
 
   past : (k : ℕ) → k ≡ P .nodes .0 → ltb k (P .nodes .0) ≡ false
   past k e = le-ltb k (P .nodes .0) (omega arith)
@@ -43,7 +40,7 @@ module _ (P : Plan) (c : Parts) (q : Place) where
   none-second h = past (lowestSecond P c q) (first-none (P .nodes .0) (λ k. isDue P c q k && goesSecond c (q .mark) k) (λ k l. not-both (goesSecond c (q .mark)) k (h k l)))
 
   none-due : NoneDue → ltb (lowestDue P c q) (P .nodes .0) ≡ false
-  none-due h = past (lowestDue P c q) (first-none (P .nodes .0) (isDue P c q) (λ k l. not-so (isDue P c q k) (λ e. h k l (due-is k e))))
+  none-due h = past (lowestDue P c q) (first-none (P .nodes .0) (isDue P c q) (λ k l. not-so (isDue P c q k) (λ e. h k l (due-is P c q k e))))
 
   pub next-wait : Quiet P q → NoneDue → nextStep P c q ≡ Delay (record { 0 = timeToDue P c q })
   unfolding nextStep
@@ -74,5 +71,5 @@ module _ (P : Plan) (c : Parts) (q : Place) where
         pub next-third : NoneSecond P c q → ((k : ℕ) → k < i → Due P c q k → ⊥) → nextStep P c q ≡ TickOf (record { 0 = i })
         unfolding nextStep
         next-third m h =
-            let z : lowestDue P c q ≡ i = first-at (P .nodes .0) i (isDue P c q) below (λ k l. not-so (isDue P c q k) (λ e. h k l (due-is k e))) (is-due i d) in
+            let z : lowestDue P c q ≡ i = first-at (P .nodes .0) i (isDue P c q) below (λ k l. not-so (isDue P c q k) (λ e. h k l (due-is P c q k e))) (is-due i d) in
             rw (none-about a, none-first n, none-second m, z, lt-ltb i (P .nodes .0) below)

@@ -15,23 +15,14 @@ use Rattle.gap.specs.Gap.{nearest, predecessor, distanceBefore, gapOf}
 use Rattle.rules.specs.declared.Rule.{Rule}
 use Rattle.rules.specs.declared.Rule.the-variants.{One, Two, Three}
 use Rattle.run.specs.declared.Step.{Step}
-use Rattle.run.specs.declared.Step.the-variants.{Delay, TickOf, SendOf}
 use Rattle.run.specs.State.{freshRun, inRange, sendsApart, outOfStep}
 use Rattle.run.specs.Moves.{clockAfter, modeAfter, slotAfter}
 use Rattle.run.specs.Steps.{stepNumber, stepTested, stepOf}
+use Rattle.run.proofs.Letters.{D, T, S}
 use Rattle.shown.specs.Parts.{predecessorAt, widestFrom, widestNode, partsFor}
 use Rattle.shown_rounds.specs.Rounds.{inOrderFrom, roundBefore, pivotRound, roundsBefore}
 use Rattle.shown_rounds.specs.Moments.{atMoment, nextMoment, moments, untilOut}
 use Rattle.shown_rounds.specs.ByRounds.{told}
-
-D : ℕ → Step
-D n = Delay (record { 0 = n })
-
-T : ℕ → Step
-T n = TickOf (record { 0 = n })
-
-S : ℕ → Step
-S n = SendOf (record { 0 = n })
 
 -- A plan with its failed rule, the rounds before the pivot, more moments after it than its run has, and the whole run's steps.
 record Told : Type 0 where
@@ -61,5 +52,5 @@ Right [] = Unit {0}
 Right (w ∷ more) = (untilOut (w .plan) freshRun (told (w .plan) (partsFor (w .plan) (w .rule)) (w .rounds) (w .moments)) ≡ w .steps) × Right more
 
 sample-right : Right sample
-unfolding D T S told-of sample Right firstOf anyBelow allBelow firstFrom largestBelow leastBelow over distance sends activeOutside guardOrTailWrong minOrMaxWrong someNotActive sharesSlot someShared planNumber nearest predecessor distanceBefore gapOf freshRun inRange sendsApart outOfStep clockAfter modeAfter slotAfter stepNumber stepTested stepOf predecessorAt widestFrom widestNode partsFor inOrderFrom roundBefore pivotRound roundsBefore atMoment nextMoment moments untilOut
+unfolding told-of sample Right firstOf anyBelow allBelow firstFrom largestBelow leastBelow over distance sends activeOutside guardOrTailWrong minOrMaxWrong someNotActive sharesSlot someShared planNumber nearest predecessor distanceBefore gapOf freshRun inRange sendsApart outOfStep clockAfter modeAfter slotAfter stepNumber stepTested stepOf predecessorAt widestFrom widestNode partsFor inOrderFrom roundBefore pivotRound roundsBefore atMoment nextMoment moments untilOut
 sample-right = (refl, (refl, (refl, (refl, tt))))
