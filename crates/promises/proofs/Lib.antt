@@ -1,1 +1,3 @@
+pub mod ByEquations
 pub mod Unique
+pub mod UniqueBytes

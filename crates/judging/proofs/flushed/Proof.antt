@@ -1,3 +1,4 @@
+-- What waits is a front part of the buffer, as long as the test says.
 use mathlib.Core.Path.{sym}
 use lib.Seq.{length-take-le}
 use borrow.Author.Needs.{needs}

@@ -1,3 +1,4 @@
+-- The verdict is of the plan that was tested, so a failed rule is the verdict's and the parts are that rule's.
 use mathlib.Core.Path.{sym, ap, _∙_}
 use Rattle.rules.specs.declared.Verdict.{Verdict}
 use borrow.Author.Needs.{needs}

@@ -1,3 +1,4 @@
+-- What was given last is what the definition gives where the run has come to, and fewer steps of the shown run are left each time.
 use mathlib.Core.Path.{_≡_, refl, _∙_}
 use mathlib.Core.Bool.{true}
 use lib.ListN.{length}

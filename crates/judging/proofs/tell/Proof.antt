@@ -1,3 +1,4 @@
+-- A file that the reader takes has a plan that 1 to 9 let through.
 use mathlib.Core.Path.{sym, ap, _∙_}
 use Rattle.plan_file.proofs.Passed.{taken-passes}
 use Rattle.plan_file.specs.declared.PlanRead.{PlanRead}
