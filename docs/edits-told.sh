@@ -1,5 +1,6 @@
 #!/bin/sh
-# Whether docs/TOUR.md tells every must-fail edit, and no other, and at least two for each function of its last table.
+# Whether docs/TOUR.md tells every must-fail edit by its name, and no other, and in each row of its last table two names or
+# a callee whose edits count too ("and those of"). It doesn't look at the crate, nor at what an edit changes.
 # Says what it misses, and fails.
 cd "$(dirname "$0")/.." || exit 2
 table=$(sed -n '/^## Wrong programs/,$p' docs/TOUR.md | grep '^| .*`.*|')
