@@ -16,7 +16,7 @@ use answer_bytes::write_place;
 use plan::Plan;
 use plan::RUN_OUTSIDE;
 use shown::Given;
-use shown::next_shown;
+use shown_next::next_shown;
 
 // The number of a next step's answer; the step and the place after it are put into bytes where there is one.
 fn write_given(place: &mut [u8], nodes: usize, step: &mut [u8], given: Given) -> u8

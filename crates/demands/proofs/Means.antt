@@ -13,7 +13,7 @@ use Rattle.rules.specs.declared.Verdict.{Verdict}
 use Rattle.rules.specs.declared.Judged.the-variants.{Gives, Refused}
 use Rattle.rules.specs.Rules.{verdictOf, judgedOf}
 use Rattle.in_step.proofs.Stays.{stays-in-step}
-use Rattle.shown.proofs.Why.{shows-why}
+use Rattle.shows_why.proofs.Why.{shows-why}
 use Rattle.demands.specs.Demand3.{Means, Demand3}
 
 -- a verdict is given only where 1 to 9 let the plan through, and it is the plan's

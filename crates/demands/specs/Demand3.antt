@@ -12,7 +12,7 @@ use Rattle.run.specs.State.{freshRun}
 use Rattle.run.specs.Steps.{Legal, runAfter}
 use Rattle.run.specs.Reckoning.{timeSince}
 use Rattle.in_step.specs.InStep.{InStep}
-use Rattle.shown.specs.Ends.{Ends}
+use Rattle.shows_why.specs.Ends.{Ends}
 
 -- Accepted: after any legal steps from a fresh start, while a node sends every node is in its slot, and every node's
 -- reckoning bounds the real time since the last message (or start). A failed rule: the shown run is legal at every step,

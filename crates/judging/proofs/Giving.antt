@@ -14,8 +14,8 @@ use Rattle.shown.specs.declared.Next.the-variants.{Takes, Finished, Refused}
 use Rattle.shown.specs.declared.Given.{Given}
 use Rattle.shown.specs.Shown.{givenBy, givenOf}
 use Rattle.shown.proofs.Casting.{cast}
-use Rattle.shown.proofs.Why.{given-is}
-use Rattle.shown.proofs.Left.{stepsLeft, Within, left-falls}
+use Rattle.shown.proofs.Giving.{given-is}
+use Rattle.shows_why.proofs.Left.{stepsLeft, Within, left-falls}
 use Rattle.judging.specs.Prepared.{Prepared}
 
 module _ {P : Plan} {c : Parts} (prepared : Prepared P c) where

@@ -24,8 +24,8 @@ use run::apart_tested;
 use shown::Next;
 use shown::Parts;
 use shown::fresh_place;
-use shown::given_tested;
-use shown::parts_tested;
+use shown_next::given_tested;
+use shown_parts::parts_tested;
 
 fn flushed(out: &[u8], waiting: usize) {
     if waiting <= out.len() {

@@ -37,9 +37,9 @@ use Rattle.reckoning.proofs.reckon.Reads as reckon
 use Rattle.reckoning.proofs.reckon_tested.Reads as reckon-tested
 use Rattle.desk.proofs.step_at_desk.Reads as step-at-desk
 use Rattle.shown.proofs.fresh_place.Reads as fresh-place
-use Rattle.shown.proofs.next_shown.Reads as next-shown
-use Rattle.shown.proofs.parts_tested.Reads as parts-tested
-use Rattle.shown.proofs.given_tested.Reads as given-tested
+use Rattle.shown_next.proofs.next_shown.Reads as next-shown
+use Rattle.shown_parts.proofs.parts_tested.Reads as parts-tested
+use Rattle.shown_next.proofs.given_tested.Reads as given-tested
 use Rattle.text.proofs.put_byte.Reads as put-byte
 use Rattle.text.proofs.put_word.Reads as put-word
 use Rattle.text.proofs.put_number.Reads as put-number

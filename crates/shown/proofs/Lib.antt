@@ -1,16 +1,5 @@
 pub mod Worked
 pub mod Play
 pub mod Giving
-pub mod Progress
-pub mod Stands
 pub mod Roles
-pub mod Wall
-pub mod Tail
-pub mod Later
-pub mod Rounds
-pub mod Dawn
 pub mod Casting
-pub mod Widest
-pub mod Looks
-pub mod Why
-pub mod Left

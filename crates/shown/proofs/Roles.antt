@@ -2,6 +2,7 @@
 use Prim.Native.Nat.{ℕ, _+_, _*_, _≤_, _<_}
 use mathlib.Core.Path.{_≡_, sym, _∙_}
 use mathlib.Core.Logic.{_≢_}
+use native.Mathlib.Nat.{mul-le-mul-right}
 use native.Mathlib.Decide.{ℕ-discrete}
 use native.Mathlib.Omega.{arith}
 use Rattle.laws.specs.Ring.{distance}
@@ -11,7 +12,13 @@ use Rattle.plan.specs.Sending.{own}
 use Rattle.plan.specs.Tested.{Sound}
 use Rattle.plan.proofs.Sound.{own-in-frame}
 use Rattle.shown.specs.declared.Parts.{Parts}
-use Rattle.shown.proofs.Stands.{slot-fits}
+
+-- the first g ticks of a slot of the frame fit into the frame
+pub slot-fits : {P : Plan} → Sound P → (s : ℕ) → s < P .frame .0 → s * P .ticks .0 + P .guard .0 < P .frame .0 * P .ticks .0
+slot-fits {P} o s h =
+    let next : s + 1 ≤ P .frame .0 = omega arith in
+    let z : (s + 1) * P .ticks .0 ≤ P .frame .0 * P .ticks .0 = mul-le-mul-right (P .ticks .0) next in
+    omega (arith, o .guard-tail)
 
 -- the sender of p sends in p, and the fast node doesn't
 pub record Roles (P : Plan) (c : Parts) : Type 0 where

@@ -1,4 +1,2 @@
 pub mod Parts
 pub mod Shown
-pub mod Looking
-pub mod Ends

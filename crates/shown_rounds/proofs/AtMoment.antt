@@ -27,10 +27,10 @@ use Rattle.shown.specs.declared.Place.{Place}
 use Rattle.shown.specs.declared.Parts.{Parts}
 use Rattle.shown.specs.Shown.{dueTime, turns, goesFirst, goesSecond, timeToDue, nextStep, markAfter, givenBy, givenOf}
 use Rattle.shown.proofs.Play.{Quiet, OnTime, Due, due-low}
-use Rattle.shown.proofs.Progress.{Kept, all-ticked, all-delayed, all-sent}
+use Rattle.shows_why.proofs.Progress.{Kept, all-ticked, all-delayed, all-sent}
 use Rattle.shown.proofs.Roles.{Roles}
-use Rattle.shown.proofs.Rounds.{about-ticked}
-use Rattle.shown.proofs.Wall.{later, due-fast, due-slow}
+use Rattle.shows_why.proofs.Rounds.{about-ticked}
+use Rattle.shows_why.proofs.Wall.{later, due-fast, due-slow}
 use Rattle.shown_rounds.specs.Rounds.{ticks, ticksAndSends, inOrder}
 use Rattle.shown_rounds.specs.Moments.{toNearest, acts, atMoment, nextMoment, moments}
 use Rattle.shown_rounds.proofs.Next.{next-wait, next-send, next-first, next-second}

@@ -25,10 +25,10 @@ use Rattle.shown.specs.declared.Place.{Place}
 use Rattle.shown.specs.declared.Parts.{Parts}
 use Rattle.shown.specs.Shown.{turns, goesFirst, goesSecond, nextStep, markAfter, timeToDue, givenBy, givenOf}
 use Rattle.shown.proofs.Play.{Quiet}
-use Rattle.shown.proofs.Progress.{Kept, bump, all-ticked, all-delayed, all-sent}
+use Rattle.shows_why.proofs.Progress.{Kept, bump, all-ticked, all-delayed, all-sent}
 use Rattle.shown.proofs.Roles.{Roles}
-use Rattle.shown.proofs.Rounds.{earlier, pivotCount, Early, due-before, early-done, about-ticked, early-on-time, early-send, early-tick, delay-is-min}
-use Rattle.shown.proofs.Dawn.{pivot-not, early-delay}
+use Rattle.shows_why.proofs.Rounds.{earlier, pivotCount, Early, due-before, early-done, about-ticked, early-on-time, early-send, early-tick, delay-is-min}
+use Rattle.shows_why.proofs.Dawn.{pivot-not, early-delay}
 use Rattle.shown_rounds.specs.Rounds.{ticks, ticksAndSends, inOrder, roundBefore}
 use Rattle.shown_rounds.proofs.Next.{next-wait, next-send, next-first, next-second}
 use Rattle.shown_rounds.proofs.Plays.{Leads, leads-then, leads-nowhere, Taken, takes-then, takes}

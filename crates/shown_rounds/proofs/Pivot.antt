@@ -27,12 +27,12 @@ use Rattle.shown.specs.declared.Place.{Place}
 use Rattle.shown.specs.declared.Parts.{Parts}
 use Rattle.shown.specs.Shown.{turns, goesFirst, goesSecond, nextStep, markAfter, givenBy, givenOf}
 use Rattle.shown.proofs.Play.{Quiet, Due}
-use Rattle.shown.proofs.Progress.{Kept, bump, bump-same, bump-other, all-ticked, all-delayed}
-use Rattle.shown.proofs.Stands.{busy-at-own}
+use Rattle.shows_why.proofs.Progress.{Kept, bump, bump-same, bump-other, all-ticked, all-delayed}
+use Rattle.shows_why.proofs.Stands.{busy-at-own}
 use Rattle.shown.proofs.Roles.{Roles, pivot-in-frame, sender-not-fast}
-use Rattle.shown.proofs.Wall.{later}
-use Rattle.shown.proofs.Rounds.{earlier, pivotCount, due-lacks, about-ticked}
-use Rattle.shown.proofs.Dawn.{within, Eve, Dawn, due-in, pivot-is, eve-begins, eve-on-time, eve-tick, eve-send, dawn-on-time}
+use Rattle.shows_why.proofs.Wall.{later}
+use Rattle.shows_why.proofs.Rounds.{earlier, pivotCount, due-lacks, about-ticked}
+use Rattle.shows_why.proofs.Dawn.{within, Eve, Dawn, due-in, pivot-is, eve-begins, eve-on-time, eve-tick, eve-send, dawn-on-time}
 use Rattle.shown_rounds.specs.Rounds.{ticks, ticksAndSends, inOrder, neither, pivotRound}
 use Rattle.shown_rounds.proofs.Next.{next-send, next-first, next-second, next-third}
 use Rattle.shown_rounds.proofs.Plays.{Leads, leads-then, leads-nowhere, Taken, takes-then, takes}

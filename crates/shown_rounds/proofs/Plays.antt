@@ -19,7 +19,7 @@ use Rattle.shown.specs.declared.Next.the-variants.{Takes}
 use Rattle.shown.specs.Shown.{nextStep, placeAfter, givenBy, givenOf, placeAt, shownSteps}
 use Rattle.shown.proofs.Play.{OnTime, Move, on-time, next-move, move-legal}
 use Rattle.shown.proofs.Giving.{given-takes}
-use Rattle.shown.proofs.Progress.{Kept, kept-after}
+use Rattle.shows_why.proofs.Progress.{Kept, kept-after}
 
 -- the steps are given one after the other from q, and lead to z
 abbrev pub Plays : Plan → Place → List Step → Place → Type 0

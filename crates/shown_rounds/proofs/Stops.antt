@@ -18,7 +18,7 @@ use Rattle.shown.specs.declared.Next.the-variants.{Finished}
 use Rattle.shown.specs.Shown.{nextStep, placeAfter, stays, givenBy, givenOf, shownSteps}
 use Rattle.shown.proofs.Play.{OnTime}
 use Rattle.shown.proofs.Giving.{given-stops}
-use Rattle.shown.proofs.Progress.{Kept}
+use Rattle.shows_why.proofs.Progress.{Kept}
 use Rattle.shown_rounds.specs.Moments.{untilOut}
 use Rattle.shown_rounds.proofs.Plays.{Plays, plays-then, Leads, leads-run, leads-after, leads-nowhere, Taken, takes-then, takes}
 

@@ -21,10 +21,10 @@ use Rattle.run.specs.declared.NodeState.{NodeState}
 use Rattle.run.specs.declared.Run.{Run}
 use Rattle.run.specs.State.{node, isSending, elsewhere, sendsApart, outOfStep}
 use Rattle.shown.specs.declared.Parts.{Parts}
-use Rattle.shown.proofs.Stands.{Fits, Stands, at-place, sending-at}
+use Rattle.shows_why.proofs.Stands.{Fits, Stands, at-place, sending-at}
 use Rattle.shown.proofs.Roles.{Roles, pivot-in-frame}
-use Rattle.shown.proofs.Rounds.{Turned, done, due, Round}
-use Rattle.shown.proofs.Dawn.{Dawn}
+use Rattle.shows_why.proofs.Rounds.{Turned, done, due, Round}
+use Rattle.shows_why.proofs.Dawn.{Dawn}
 
 -- whoever sends has every node in its slot: not out of step
 in-step : (P : Plan) (r : Run) → ((i j : ℕ) → i < P .nodes .0 → j < P .nodes .0 → isSending (node r i .mode) ≡ true → node r j .slot .0 ≡ node r i .slot .0) → outOfStep P r ≡ false

@@ -25,10 +25,11 @@ use Rattle.shown.specs.declared.Place.{Place}
 use Rattle.shown.specs.declared.Parts.{Parts}
 use Rattle.shown.specs.Shown.{freshPlace, dueTime, turns, pivotNext, givenBy, givenOf}
 use Rattle.shown.proofs.Roles.{Roles, Failure}
-use Rattle.shown.proofs.Rounds.{earlier, pivotCount}
-use Rattle.shown.proofs.Dawn.{pivot-is, pivot-not}
+use Rattle.shows_why.proofs.Rounds.{earlier, pivotCount}
+use Rattle.shows_why.proofs.Dawn.{pivot-is, pivot-not}
 use Rattle.shown.proofs.Casting.{cast}
-use Rattle.shown.proofs.Why.{given-is, fresh-early}
+use Rattle.shown.proofs.Giving.{given-is}
+use Rattle.shows_why.proofs.Why.{fresh-early}
 use Rattle.shown_rounds.specs.Rounds.{roundBefore, roundsBefore, afterRounds, throughPivot}
 use Rattle.shown_rounds.specs.Moments.{moments}
 use Rattle.shown_rounds.specs.ByRounds.{told, pivotEnd, ByRounds, ShownByRounds}

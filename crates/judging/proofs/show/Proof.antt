@@ -6,7 +6,7 @@ use Rattle.plan.proofs.Sound.{sound}
 use Rattle.run.specs.State.{inRange}
 use Rattle.run.proofs.Ranges.{fresh-range}
 use Rattle.shown.specs.Shown.{freshPlace, givenOf}
-use Rattle.shown.proofs.Left.{within-fresh}
+use Rattle.shows_why.proofs.Left.{within-fresh}
 use Rattle.judging.proofs.Giving.{sender-known, given-whole, toGive, Giving, goes-within, gives-less}
 use borrow.Author.Needs.{needs}
 use Rattle.judging.proofs.show.Statement.{statement}

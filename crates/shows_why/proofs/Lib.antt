@@ -1,0 +1,9 @@
+pub mod Progress
+pub mod Stands
+pub mod Wall
+pub mod Tail
+pub mod Later
+pub mod Rounds
+pub mod Dawn
+pub mod Why
+pub mod Left
