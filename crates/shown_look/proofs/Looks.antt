@@ -1,13 +1,13 @@
 -- One node more in a look round, from the highest down: it is the lowest so far, if it passes.
 use Prim.Native.Nat.{ℕ, suc, _+_, _-_, _≤_, _<_}
-use mathlib.Core.Path.{_≡_, refl, _∙_}
+use mathlib.Core.Path.{_≡_, refl, ap, _∙_}
 use mathlib.Core.Bool.{Bool, true, false, cond, _&&_}
 use native.Mathlib.Decide.{ℕ-discrete}
 use native.Mathlib.Omega.{arith}
 use borrow.Author.Tests.{lt-ltb, le-ltb}
 use lib.Dec.{ltb}
 use Rattle.laws.specs.Below.{firstFrom}
-use Rattle.laws.proofs.Belows.{any-found, any-never}
+use Rattle.laws.proofs.Belows.{any-found, any-never, first-is-none}
 use Rattle.plan.specs.declared.Plan.{Plan}
 use Rattle.plan.specs.declared.Node.{Node}
 use Rattle.plan.specs.declared.Time.{Time}
@@ -58,13 +58,14 @@ lowest-with P i found result b f l e d r = r ∙ rw (e, d) (go (f (i .0)) refl) 
 
 module _ (P : Plan) (c : Parts) (q : Place) where
   -- of no node nothing is seen
-  pub seen-nothing : record { about = P .nodes; first = P .nodes; second = P .nodes; due = P .nodes } ≡ seenFrom P c q (P .nodes .0)
+  pub seen-nothing : record { about = P .nodes; first = P .nodes; second = P .nodes; due = P .nodes; sending = P .nodes } ≡ seenFrom P c q (P .nodes .0)
   unfolding seenFrom
   seen-nothing = λ j. record {
     about = nobody (λ k. isAbout (node (q .run) k .mode)) j;
     first = nobody (λ k. isDue P c q k && goesFirst P c (q .run) (q .mark) k) j;
     second = nobody (λ k. isDue P c q k && goesSecond c (q .mark) k) j;
     due = nobody (isDue P c q) j;
+    sending = nobody (λ k. isSending (node (q .run) k .mode)) j;
   }
     where
       nobody : (f : ℕ → Bool) → P .nodes ≡ lowestFrom P (P .nodes .0) f
@@ -78,10 +79,16 @@ module _ (P : Plan) (c : Parts) (q : Place) where
   unfolding lookedOf pastDue
   on-time-looked h = rw (any-never (P .nodes .0) (λ k. ltb (dueTime P c (q .mark) k) (node (q .run) k .time .0)) (λ i l. le-ltb (dueTime P c (q .mark) i) (node (q .run) i .time .0) (h i l)))
 
--- where nobody sends, the run is not out of step
-pub silent-in-step : (P : Plan) (r : Run) → ((i : ℕ) → i < P .nodes .0 → isSending (node r i .mode) ≡ false) → outOfStep P r ≡ false
-unfolding outOfStep sendsApart
-silent-in-step P r h = any-never (P .nodes .0) (sendsApart P r) (λ i l. rw (h i l))
+-- where nobody was seen sending, the run is not out of step
+pub silent-in-step : (P : Plan) (c : Parts) (q : Place) (seen : Seen) → seen ≡ seenFrom P c q 0 → P .nodes .0 ≤ seen .sending .0 → outOfStep P (q .run) ≡ false
+unfolding seenFrom outOfStep sendsApart
+silent-in-step P c q seen e n = any-never (P .nodes .0) (sendsApart P (q .run)) (λ i l. rw (first-is-none (P .nodes .0) (λ k. isSending (node (q .run) k .mode)) none i l))
+  where
+    lowest : seen .sending .0 ≡ firstFrom (λ k. isSending (node (q .run) k .mode)) (P .nodes .0 - 0) 0
+    lowest = ap (λ (x : Seen). x .sending .0) e
+
+    none : ltb (firstFrom (λ k. isSending (node (q .run) k .mode)) (P .nodes .0) 0) (P .nodes .0) ≡ false
+    none = let z : P .nodes .0 - 0 ≡ P .nodes .0 = omega arith in le-ltb _ _ (rw (lowest, z) at n)
 
 -- the step that was seen, where `wait` is the time to the first due moment
 abbrev pub chosen : Plan → Seen → Time → Step

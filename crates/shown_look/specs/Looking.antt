@@ -4,7 +4,7 @@ use mathlib.Core.Bool.{Bool, cond, _&&_}
 use Rattle.laws.specs.Below.{firstFrom}
 use Rattle.plan.specs.declared.Plan.{Plan}
 use Rattle.plan.specs.declared.Node.{Node}
-use Rattle.run.specs.State.{node, isAbout}
+use Rattle.run.specs.State.{node, isAbout, isSending}
 use Rattle.shown.specs.declared.Parts.{Parts}
 use Rattle.shown.specs.declared.Place.{Place}
 use Rattle.shown_look.specs.declared.Seen.{Seen}
@@ -16,7 +16,7 @@ use Rattle.shown.specs.Shown.{isDue, pastDue, goesFirst, goesSecond}
 abbrev pub lowestFrom : Plan → ℕ → (ℕ → Bool) → Node
 lowestFrom P i f = record { 0 = firstFrom f (P .nodes .0 - i) i }
 
--- The lowest of the nodes from i on: about to send, due of those who go first, of those who go next, of all.
+-- The lowest of the nodes from i on: about to send, due of those who go first, of those who go next, of all, sending.
 unfoldable pub seenFrom : Plan → Parts → Place → ℕ → Seen
 seenFrom P parts q i =
     record {
@@ -24,6 +24,7 @@ seenFrom P parts q i =
       first = lowestFrom P i (λ k. isDue P parts q k && goesFirst P parts (q .run) (q .mark) k);
       second = lowestFrom P i (λ k. isDue P parts q k && goesSecond parts (q .mark) k);
       due = lowestFrom P i (isDue P parts q);
+      sending = lowestFrom P i (λ k. isSending (node (q .run) k .mode));
     }
 
 -- A time past due, or what was seen of all nodes.

@@ -1,11 +1,11 @@
 // One look round the nodes finds every candidate for the next step at once.
 ghost use mathlib.Core.Path.{_≡_};
-ghost use mathlib.Core.Bool.{false, cond, _&&_, _||_};
+ghost use mathlib.Core.Bool.{cond, _&&_};
 ghost use Prim.Native.Nat.{_+_, _<_};
 ghost use Rattle.plan.specs.Sending.{own};
 ghost use Rattle.plan.specs.Tested.{Sound};
 ghost use Rattle.run.specs.declared.Run.{Run};
-ghost use Rattle.run.specs.State.{node, isAbout, outOfStep};
+ghost use Rattle.run.specs.State.{node, isAbout};
 ghost use Rattle.run.specs.Moves.{guardEnds, modeAfter};
 ghost use Rattle.shown.specs.Shown.{dueTime, goesFirst, goesSecond};
 ghost use Rattle.shown.specs.declared.Place.{Place};
@@ -22,24 +22,20 @@ use run::is_sending;
 use shown::Mark;
 use shown::Parts;
 
-// The lowest node about to send, and the lowest due of those who go first, of those who go next, of all; N where there is none.
+// The lowest node about to send, the lowest due of those who go first, of those who go next, of all, and the lowest sending;
+// N where there is none.
 pub struct Seen {
     pub about: Node,
     pub first: Node,
     pub second: Node,
     pub due: Node,
+    pub sending: Node,
 }
 
 // What a look round the nodes tells: a time is past due, or who could go next.
 pub enum Looked {
     PastDue,
     OnTime(Seen),
-}
-
-// A look round the nodes: what it tells, and whether a node was seen sending.
-pub struct Round {
-    pub looked: Looked,
-    pub sending: bool,
 }
 
 // The time since tick at which node i is due.
@@ -108,15 +104,6 @@ fn goes_second(parts: Parts, mark: Mark, i: Node) -> bool
     }
 }
 
-fn either(a: bool, b: bool) -> bool
-    ensures { λ r. ⌜ r ≡ (a || b) ⌝ }
-{
-    if a {
-        return true;
-    }
-    b
-}
-
 fn both(a: bool, b: bool) -> bool
     ensures { λ r. ⌜ r ≡ (a && b) ⌝ }
 {
@@ -160,14 +147,14 @@ fn seen_with(
         first: lower(first, i, seen.first),
         second: lower(second, i, seen.second),
         due: lower(due, i, seen.due),
+        sending: lower(is_sending(mode), i, seen.sending),
     }
 }
 
-// Every node looked at, the highest first. Where nobody was seen sending, the run is not out of step.
-pub fn look_round(plan: Plan, parts: Parts, run: Run, mark: Mark) -> Round
+// Every node looked at, the highest first.
+pub fn look_round(plan: Plan, parts: Parts, run: Run, mark: Mark) -> Looked
     requires { ⌜ Sound plan ⌝ }
-    ensures { λ r. ⌜ r .looked ≡ lookedOf plan parts (record { run = run; mark = mark }) ⌝ }
-    ensures { λ r. ⌜ (r .sending ≡ false → outOfStep plan run ≡ false) ⌝ }
+    ensures { λ r. ⌜ r ≡ lookedOf plan parts (record { run = run; mark = mark }) ⌝ }
 {
     let nodes = plan.nodes;
     let mut seen = Seen {
@@ -175,8 +162,8 @@ pub fn look_round(plan: Plan, parts: Parts, run: Run, mark: Mark) -> Round
         first: nodes,
         second: nodes,
         due: nodes,
+        sending: nodes,
     };
-    let mut sending = false;
     let mut i = nodes.0;
     while 0 < i {
         i -= 1;
@@ -184,17 +171,9 @@ pub fn look_round(plan: Plan, parts: Parts, run: Run, mark: Mark) -> Round
         let state = run.nodes[i as usize];
         let time = due_time(plan, parts, mark, Node(i));
         if time.0 < state.time.0 {
-            return Round {
-                looked: Looked::PastDue,
-                sending: true,
-            };
+            return Looked::PastDue;
         }
-        let mode = state.mode;
-        sending = either(sending, is_sending(mode));
         seen = seen_with(plan, parts, mark, Node(i), slot, state, seen);
     }
-    Round {
-        looked: Looked::OnTime(seen),
-        sending: sending,
-    }
+    Looked::OnTime(seen)
 }

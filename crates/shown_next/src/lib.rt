@@ -2,11 +2,12 @@
 mod choosing;
 
 ghost use mathlib.Core.Path.{_≡_};
-ghost use mathlib.Core.Bool.{true, false};
+ghost use mathlib.Core.Bool.{true};
 ghost use Prim.Native.Nat.{_<_};
 ghost use Rattle.plan.specs.Tested.{planNumber, Sound};
 ghost use Rattle.run.specs.State.{inRange, outOfStep};
 ghost use Rattle.shown.specs.Shown.{stays, givenBy, givenOf};
+ghost use Rattle.shown_look.specs.Looking.{seenFrom};
 use choosing::mark_after;
 use choosing::next_step;
 use gap::distances_tested;
@@ -20,10 +21,12 @@ use run::Run;
 use run::in_range;
 use run::is_out_of_step;
 use shown::Given;
+use shown::Mark;
 use shown::Next;
 use shown::Parts;
 use shown::Place;
 use shown_look::Looked;
+use shown_look::Seen;
 use shown_look::look_round;
 use shown_parts::parts_tested;
 use steps::moved;
@@ -38,13 +41,13 @@ fn stays(next: Next, place: Place) -> Given
     }
 }
 
-// Out of step, by whether a node was seen sending.
-fn is_out(plan: Plan, run: Run, sending: bool) -> bool
+// Out of step, of a run in which these were seen: only where somebody sends need anyone be asked.
+fn is_out(plan: Plan, parts: Parts, run: Run, mark: Mark, seen: Seen) -> bool
     requires { ⌜ Sound plan ⌝ }
-    requires { ⌜ (sending ≡ false → outOfStep plan run ≡ false) ⌝ }
+    requires { ⌜ seen ≡ seenFrom plan parts (record { run = run; mark = mark }) 0 ⌝ }
     ensures { λ r. ⌜ r ≡ outOfStep plan run ⌝ }
 {
-    if sending {
+    if seen.sending.0 < plan.nodes.0 {
         return is_out_of_step(plan, run);
     }
     false
@@ -61,12 +64,11 @@ pub fn given_tested(plan: Plan, parts: Parts, place: Place) -> Given
 {
     let run = place.run;
     let mark = place.mark;
-    let round = look_round(plan, parts, run, mark);
-    let looked = round.looked;
+    let looked = look_round(plan, parts, run, mark);
     let Looked::OnTime(seen) = looked else {
         return stays(Next::Finished, place);
     };
-    if is_out(plan, run, round.sending) {
+    if is_out(plan, parts, run, mark, seen) {
         return stays(Next::Finished, place);
     }
     let step = next_step(plan, parts, run, mark, seen);

@@ -1,32 +1,29 @@
--- From the highest node down, of the nodes from i on: none is past due, `seen` is what they show, and none sends while
--- `sending` is false. The measure is i; a node past due ends the look.
+-- From the highest node down, of the nodes from i on: none is past due, and `seen` is what they show. The measure is i;
+-- a node past due ends the look.
 use Rattle.shown.specs.declared.Place.{Place}
-use Rattle.shown_look.proofs.Looks.{from-earlier, seen-nothing, late-looked, on-time-looked, silent-in-step}
-use Rattle.laws.proofs.Bools.{clash, or-false-left, or-false-right}
+use Rattle.shown_look.proofs.Looks.{from-earlier, seen-nothing, late-looked, on-time-looked}
 use Rattle.shown_look.specs.declared.Looked.the-variants.{OnTime}
 use Prim.Native.Nat.{ℕ, _+_, _≤_, _<_, _-_}
-use mathlib.Core.Bool.{true, false}
 use mathlib.Core.Path.{_≡_, refl, sym, ap, _∙_}
 use native.Mathlib.Omega.{arith}
 use Rattle.shown_look.specs.Looking.{seenFrom}
 use Rattle.shown.specs.Shown.{dueTime}
-use Rattle.run.specs.State.{node, isSending}
+use Rattle.run.specs.State.{node}
 use borrow.Author.Needs.{needs}
 use Rattle.shown_look.proofs.look_round.Statement.{statement}
 use Rattle.shown_look.proofs.look_round.Tie as tie
 
 abbrev Inv-loop : tie.InvT-loop
-Inv-loop parts mark plan run seen₀ sending₀ i₀ seen sending i =
+Inv-loop parts mark plan run seen₀ i₀ seen i =
     (i ≤ plan .nodes .0) × ((k : ℕ) → i ≤ k → k < plan .nodes .0 → node run k .time .0 ≤ dueTime plan parts mark k) × (seen ≡ seenFrom plan parts (record { run = run; mark = mark }) i)
-    × (sending ≡ false → (k : ℕ) → i ≤ k → k < plan .nodes .0 → isSending (node run k .mode) ≡ false)
 
 abbrev μ-loop : tie.MeasureT-loop
-μ-loop parts mark plan run seen₀ sending₀ i₀ seen sending i = i
+μ-loop parts mark plan run seen₀ i₀ seen i = i
 
 loop-holds : tie.Need-loop-holds Inv-loop μ-loop
 loop-holds c =
     let a = c .before .args in
-    (search needs, λ k l m. absurd (omega arith), seen-nothing (a .t1) (a .parts) (record { run = a .t3; mark = a .mark }), λ e k l m. absurd (omega arith))
+    (search needs, λ k l m. absurd (omega arith), seen-nothing (a .t1) (a .parts) (record { run = a .t3; mark = a .mark }))
 
 sub-i : tie.Need-sub-i Inv-loop μ-loop
 sub-i c = search needs
@@ -55,16 +52,8 @@ due-time-requires c κs = search needs
 returns : tie.Need-returns Inv-loop μ-loop
 returns c =
     let b = c .before .before .before .before .before .before .before .before .before in
-    let l = c .before .before .before .before .before .before .before .loop in (
-      late-looked (b .args .t1) (b .args .parts) (record { run = b .args .t3; mark = b .args .mark }) (l .i - 1) (search needs) (rw (← c .before .before .before .due-time .ensures) (c .if1 .taken)),
-      λ e. clash true refl e,
-    )
-
-is-sending-requires : tie.Need-is-sending-requires Inv-loop μ-loop
-is-sending-requires c κs = search needs
-
-either-requires : tie.Need-either-requires Inv-loop μ-loop
-either-requires c κs = search needs
+    let l = c .before .before .before .before .before .before .before .loop in
+    late-looked (b .args .t1) (b .args .parts) (record { run = b .args .t3; mark = b .args .mark }) (l .i - 1) (search needs) (rw (← c .before .before .before .due-time .ensures) (c .if1 .taken))
 
 seen-with-requires : tie.Need-seen-with-requires Inv-loop μ-loop
 seen-with-requires c κs = (refl, search needs)
@@ -74,20 +63,15 @@ loop-less c = search needs
 
 loop-again : tie.Need-loop-again Inv-loop μ-loop
 loop-again c =
-    let b = c .before .before .before .before .before .before .before .before .before .before .before .before in
+    let b = c .before .before .before .before .before .before .before .before .before .before in
     let a = b .args in
-    let l = c .before .before .before .before .before .before .before .before .before .before .loop in
+    let l = c .before .before .before .before .before .before .before .before .loop in
     let q : Place = record { run = a .t3; mark = a .mark } in
-    let next : l .i - 1 + 1 ≡ l .i = omega (arith, c .before .before .before .before .before .before .before .before .before .loop-test .taken) in
-    let here : node (a .t3) (l .i - 1) .time .0 ≤ dueTime (a .t1) (a .parts) (a .mark) (l .i - 1) = rw (← c .before .before .before .before .before .before .due-time .ensures) (c .before .before .before .if1 .left) in
-    let sends = c .before .before .is-sending in (
+    let next : l .i - 1 + 1 ≡ l .i = omega (arith, c .before .before .before .before .before .before .before .loop-test .taken) in
+    let here : node (a .t3) (l .i - 1) .time .0 ≤ dueTime (a .t1) (a .parts) (a .mark) (l .i - 1) = rw (← c .before .before .before .before .due-time .ensures) (c .before .if1 .left) in (
       omega arith,
       from-earlier (λ k. node (a .t3) k .time .0 ≤ dueTime (a .t1) (a .parts) (a .mark) k) (a .t1 .nodes .0) (l .i - 1) here (rw next (l .inv .1)),
       c .seen-with .ensures q refl refl (rw next (l .inv .2)),
-      λ e.
-          let none = sym (c .before .either .ensures) ∙ e in
-          from-earlier (λ k. isSending (node (a .t3) k .mode) ≡ false) (a .t1 .nodes .0) (l .i - 1) (sym (sends .ensures) ∙ or-false-right (l .sending) (sends .result) none)
-          (rw next (l .inv .3 (or-false-left (l .sending) (sends .result) none))),
     )
 
 returns-2 : tie.Need-returns-2 Inv-loop μ-loop
@@ -95,10 +79,8 @@ returns-2 c =
     let a = c .before .before .before .args in
     let l = c .before .loop in
     let q : Place = record { run = a .t3; mark = a .mark } in
-    let e : l .i ≡ 0 = omega arith in (
-      ap OnTime (l .inv .2 ∙ ap (seenFrom (a .t1) (a .parts) q) e) ∙ on-time-looked (a .t1) (a .parts) q (λ k m. l .inv .1 k (omega arith) m),
-      λ h. silent-in-step (a .t1) (a .t3) (λ k m. l .inv .3 h k (omega arith) m),
-    )
+    let e : l .i ≡ 0 = omega arith in
+    ap OnTime (l .inv .2 ∙ ap (seenFrom (a .t1) (a .parts) q) e) ∙ on-time-looked (a .t1) (a .parts) q (λ k m. l .inv .1 k (omega arith) m)
 
 pub look-round-spec : {M : Type 1} → statement M
 look-round-spec =
@@ -116,8 +98,6 @@ look-round-spec =
     element-copy-out-state
     due-time-requires
     returns
-    is-sending-requires
-    either-requires
     seen-with-requires
     loop-less
     loop-again

@@ -30,17 +30,17 @@ stays-requires c κs = search needs
 returns : tie.Need-returns
 returns c =
     let b = c .before .before .before .before .before in
-    let late = looked-late (b .args .plan) (b .args .parts) (b .args .place) (sym (c .before .before .before .look-round .ensures .0) ∙ c .before .enum-told .given .1) in
+    let late = looked-late (b .args .plan) (b .args .parts) (b .args .place) (sym (c .before .before .before .look-round .ensures) ∙ c .before .enum-told .given .1) in
     (c .stays .ensures ∙ sym (given-late (b .args .plan) (b .args .parts) (b .args .place) late), rw (c .stays .ensures) (b .pre .1 .1))
 
 seen : (c : tie.After-known-told) → (pastDue (c .before .before .before .before .before .args .plan) (c .before .before .before .before .before .args .parts) (c .before .before .before .before .before .args .place) ≡ false)
     × (c .before .looked .given .0 .0 ≡ seenFrom (c .before .before .before .before .before .args .plan) (c .before .before .before .before .before .args .parts) (c .before .before .before .before .before .args .place) 0)
 seen c =
     let b = c .before .before .before .before .before in
-    looked-on-time (b .args .plan) (b .args .parts) (b .args .place) _ (sym (c .before .before .before .look-round .ensures .0) ∙ c .before .looked .given .1)
+    looked-on-time (b .args .plan) (b .args .parts) (b .args .place) _ (sym (c .before .before .before .look-round .ensures) ∙ c .before .looked .given .1)
 
 is-out-requires : tie.Need-is-out-requires
-is-out-requires c κs = let b = c .before .before .before .before .before in (sound (b .args .plan) (b .pre .0), c .before .before .before .look-round .ensures .1)
+is-out-requires c κs = let b = c .before .before .before .before .before in (sound (b .args .plan) (b .pre .0), seen c .1)
 
 stays-requires-2 : tie.Need-stays-requires-2
 stays-requires-2 c κs = search needs
