@@ -17,7 +17,7 @@ use plan::Plan;
 use plan::RUN_OUTSIDE;
 use reckoning::reckon_tested;
 use run::Stepped;
-use run::apart_tested;
+use elsewhere::apart_tested;
 use run::in_range;
 use run_bytes::read_run;
 use run_bytes::spells_no_run;

@@ -20,7 +20,7 @@ use rules::verdict_tested;
 use run::Apart;
 use run::Run;
 use run::Step;
-use run::apart_tested;
+use elsewhere::apart_tested;
 use shown::Next;
 use shown::Parts;
 use shown::fresh_place;

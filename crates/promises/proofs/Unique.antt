@@ -20,12 +20,12 @@ use Rattle.rules.proofs.judge.Reads as judge
 use Rattle.rules.proofs.verdict_tested.Reads as verdict-tested
 use Rattle.rules.proofs.rule_number.Reads as rule-number
 use Rattle.run.proofs.fresh.Reads as fresh
-use Rattle.run.proofs.out_of_step.Reads as out-of-step
+use Rattle.elsewhere.proofs.out_of_step.Reads as out-of-step
 use Rattle.run.proofs.is_about.Reads as is-about
 use Rattle.run.proofs.is_sending.Reads as is-sending
 use Rattle.run.proofs.in_range.Reads as in-range
-use Rattle.run.proofs.apart_tested.Reads as apart-tested
-use Rattle.run.proofs.is_out_of_step.Reads as is-out-of-step
+use Rattle.elsewhere.proofs.apart_tested.Reads as apart-tested
+use Rattle.elsewhere.proofs.is_out_of_step.Reads as is-out-of-step
 use Rattle.moves.proofs.delayed.Reads as delayed
 use Rattle.moves.proofs.ticked.Reads as ticked
 use Rattle.moves.proofs.sent.Reads as sent

@@ -1,23 +1,16 @@
-// A run: its state, fresh, in range, and out of step. The steps of a run are types here, and code in the crates above.
-mod elsewhere;
+// A run: its state, fresh, and in range. Steps and answers are types here, and code in the crates above.
 mod modes;
 mod range;
 
-pub use elsewhere::apart_tested;
-pub use elsewhere::is_out_of_step;
 pub use modes::is_about;
 pub use modes::is_sending;
 pub use range::in_range;
 ghost use mathlib.Core.Path.{_≡_};
 ghost use Rattle.run.specs.State.{freshRun};
-ghost use Rattle.run.specs.Steps.{apartOf};
 use plan::Node;
-use plan::Plan;
-use plan::RUN_OUTSIDE;
 use plan::Slot;
 use plan::Tick;
 use plan::Time;
-use plan::plan_number;
 
 pub enum Mode {
     Waiting,
@@ -93,18 +86,4 @@ pub fn fresh() -> Run
         nodes: nodes,
         last: Last::Nothing,
     }
-}
-
-// The out-of-step test of any plan on any run.
-pub fn out_of_step(plan: Plan, run: Run) -> Apart
-    ensures { λ r. ⌜ r ≡ apartOf plan run ⌝ }
-{
-    let number = plan_number(plan);
-    if number != 0 {
-        return Apart::Refused(number);
-    }
-    if !in_range(plan, run) {
-        return Apart::Refused(RUN_OUTSIDE);
-    }
-    apart_tested(plan, run)
 }

@@ -19,7 +19,7 @@ use rules::Outcome;
 use rules::verdict_tested;
 use run::Run;
 use run::in_range;
-use run::is_out_of_step;
+use elsewhere::is_out_of_step;
 use shown::Given;
 use shown::Mark;
 use shown::Next;

@@ -211,7 +211,7 @@ fn case(record: &[u8]) {
     run_words(run, 31, 32);
     last_word(last);
     word(b"\n");
-    apart_words(run::out_of_step(plan, before));
+    apart_words(elsewhere::out_of_step(plan, before));
     reckoned_words(reckoning::reckon(plan, before, Node(number32(record, 416))));
     word(b"\n");
 }

@@ -30,7 +30,7 @@ use run::Step;
 use run::Stepped;
 use run::in_range;
 use run::is_about;
-use run::is_out_of_step;
+use elsewhere::is_out_of_step;
 
 // Some node is about to send.
 fn some_about(plan: Plan, run: Run) -> bool

@@ -4,9 +4,9 @@ use borrow.Author.Tests.{eq-eqb, ne-eqb, not-true, not-false}
 use borrow.Author.Needs.{needs}
 use Rattle.plan.specs.Tested.{planNumber}
 use Rattle.plan.proofs.Sound.{sound}
 use Rattle.run.specs.Steps.{apartOf}
-use Rattle.run.proofs.out_of_step.Statement.{statement}
-use Rattle.run.proofs.out_of_step.Tie as tie
+use Rattle.elsewhere.proofs.out_of_step.Statement.{statement}
+use Rattle.elsewhere.proofs.out_of_step.Tie as tie
 
 -- 1 to 9 let the plan through
 passed : (c : tie.Else1) → planNumber (c .before .before .args .plan) ≡ 0

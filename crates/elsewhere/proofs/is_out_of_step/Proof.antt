@@ -1,9 +1,9 @@
 -- The answer of the test tells whether the run is out of step.
 use mathlib.Core.Path.{sym, ap, _∙_}
 use borrow.Author.Needs.{needs}
 use Rattle.run.proofs.Apartness.{isOut, out-of-step-told}
-use Rattle.run.proofs.elsewhere.is_out_of_step.Statement.{statement}
-use Rattle.run.proofs.elsewhere.is_out_of_step.Tie as tie
+use Rattle.elsewhere.proofs.is_out_of_step.Statement.{statement}
+use Rattle.elsewhere.proofs.is_out_of_step.Tie as tie
 
 apart-tested-requires : tie.Need-apart-tested-requires
 apart-tested-requires c κs = search needs

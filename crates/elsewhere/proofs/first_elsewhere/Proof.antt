@@ -7,9 +7,9 @@ use lib.Dec.{eqb}
 use borrow.Author.Tests.{eq-eqb, ne-eqb}
 use borrow.Author.Needs.{needs}
 use Rattle.laws.proofs.Belows.{before-more, first-at, first-none}
 use Rattle.run.specs.State.{node, elsewhere}
-use Rattle.run.proofs.elsewhere.first_elsewhere.Statement.{statement}
-use Rattle.run.proofs.elsewhere.first_elsewhere.Tie as tie
+use Rattle.elsewhere.proofs.first_elsewhere.Statement.{statement}
+use Rattle.elsewhere.proofs.first_elsewhere.Tie as tie
 
 abbrev Inv-loop : tie.InvT-loop
 Inv-loop plan run n sender j₀ j = (j ≤ n) × ((k : ℕ) → k < j → not (eqb (node run k .slot .0) (sender .slot .0)) ≡ false)

@@ -5,9 +5,9 @@ use mathlib.Core.Path.{_≡_, sym, _∙_}
 use native.Mathlib.Omega.{arith}
 use borrow.Author.Needs.{needs}
 use Rattle.laws.proofs.Belows.{before-more, first-at, first-none}
 use Rattle.run.specs.State.{node, isSending}
-use Rattle.run.proofs.elsewhere.first_sending.Statement.{statement}
-use Rattle.run.proofs.elsewhere.first_sending.Tie as tie
+use Rattle.elsewhere.proofs.first_sending.Statement.{statement}
+use Rattle.elsewhere.proofs.first_sending.Tie as tie
 
 abbrev Inv-loop : tie.InvT-loop
 Inv-loop plan run n i₀ i = (i ≤ n) × ((k : ℕ) → k < i → isSending (node run k .mode) ≡ false)

@@ -1,9 +1,9 @@
 -- The lowest sending node decides: each answer is a law of `Apartness`.
 use mathlib.Core.Path.{sym}
 use borrow.Author.Needs.{needs}
 use Rattle.run.proofs.Apartness.{in-step-silent, in-step-together, out-lowest}
-use Rattle.run.proofs.elsewhere.apart_tested.Statement.{statement}
-use Rattle.run.proofs.elsewhere.apart_tested.Tie as tie
+use Rattle.elsewhere.proofs.apart_tested.Statement.{statement}
+use Rattle.elsewhere.proofs.apart_tested.Tie as tie
 
 first-sending-requires : tie.Need-first-sending-requires
 first-sending-requires c κs = search needs

@@ -3,12 +3,16 @@ ghost use mathlib.Core.Path.{_≡_};
 ghost use Prim.Native.Nat.{_<_};
 ghost use Rattle.laws.specs.Below.{firstBelow};
 ghost use Rattle.plan.specs.Tested.{Sound};
 ghost use Rattle.run.specs.State.{node, isSending, elsewhere, outOfStep, apartTested};
-use crate::Apart;
-use crate::Run;
-use crate::modes::is_sending;
+ghost use Rattle.run.specs.Steps.{apartOf};
 use plan::Node;
 use plan::Plan;
+use plan::RUN_OUTSIDE;
+use plan::plan_number;
+use run::Apart;
+use run::Run;
+use run::in_range;
+use run::is_sending;
 
 // The lowest sending node; N where none is sending.
 fn first_sending(plan: Plan, run: Run) -> Node
@@ -69,4 +73,18 @@ pub fn is_out_of_step(plan: Plan, run: Run) -> bool
         Apart::Out(_, _) => true,
         Apart::Refused(_) => false,
     }
+}
+
+// The out-of-step test of any plan on any run.
+pub fn out_of_step(plan: Plan, run: Run) -> Apart
+    ensures { λ r. ⌜ r ≡ apartOf plan run ⌝ }
+{
+    let number = plan_number(plan);
+    if number != 0 {
+        return Apart::Refused(number);
+    }
+    if !in_range(plan, run) {
+        return Apart::Refused(RUN_OUTSIDE);
+    }
+    apart_tested(plan, run)
 }
