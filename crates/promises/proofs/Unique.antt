@@ -37,6 +37,9 @@ use Rattle.reckoning.proofs.reckon.Reads as reckon
 use Rattle.reckoning.proofs.reckon_tested.Reads as reckon-tested
 use Rattle.desk.proofs.step_at_desk.Reads as step-at-desk
 use Rattle.shown.proofs.fresh_place.Reads as fresh-place
+use Rattle.shown_look.proofs.due_time.Reads as due-time
+use Rattle.shown_look.proofs.guard_ends.Reads as guard-ends
+use Rattle.shown_look.proofs.look_round.Reads as look-round
 use Rattle.shown_next.proofs.next_shown.Reads as next-shown
 use Rattle.shown_parts.proofs.parts_tested.Reads as parts-tested
 use Rattle.shown_next.proofs.given_tested.Reads as given-tested
@@ -160,13 +163,22 @@ reckon-tested-one κ a x y l m p q = p ∙ sym q
 pub step-at-desk-one : OneAnswer step-at-desk.Post
 step-at-desk-one κ a x y l m p q = p ∙ sym q
 
--- shown
+-- shown, and its parts, look and next step
 
 pub fresh-place-one : OneAnswer fresh-place.Post
 fresh-place-one κ a x y l m p q = p ∙ sym q
 
 pub next-shown-one : OneAnswer next-shown.Post
 next-shown-one κ a x y l m p q = p ∙ sym q
+
+pub due-time-one : OneAnswer due-time.Post
+due-time-one κ a x y l m p q = λ j. record { 0 = (p ∙ sym q) j }
+
+pub guard-ends-one : OneAnswer guard-ends.Post
+guard-ends-one κ a x y l m p q = p ∙ sym q
+
+pub look-round-one : OneAnswer look-round.Post
+look-round-one κ a x y l m p q = p ∙ sym q
 
 pub parts-tested-one : OneAnswer parts-tested.Post
 parts-tested-one κ a x y l m p q = p ∙ sym q
