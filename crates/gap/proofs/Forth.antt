@@ -1,24 +1,24 @@
 -- The next sending slot after any slot p: it is there, nothing sends nearer, and it is at most M away.
 use Prim.Native.Nat.{ℕ, zero, suc, _+_, _-_, _%_, _≤_, _<_}
-use mathlib.Core.Path.{_≡_, refl, sym, _∙_}
+use mathlib.Core.Path.{_≡_, refl, sym}
 use mathlib.Core.Logic.{_≢_}
 use mathlib.Core.Bool.{Bool, true, false}
-use native.Mathlib.Nat.{mod-eq-of-lt, mod-lt}
-use native.Mathlib.Decide.{decLe, decLt, ℕ-discrete}
+use native.Mathlib.Nat.{mod-lt}
+use native.Mathlib.Decide.{decLe, ℕ-discrete}
 use native.Mathlib.Omega.{arith}
 use Rattle.laws.specs.Below.{firstFrom}
 use Rattle.laws.specs.Ring.{distance}
 use Rattle.laws.proofs.Bools.{clash}
 use Rattle.laws.proofs.Belows.{largest-above}
-use Rattle.laws.proofs.Ring.{Reaches, on, round, mod-once, distance-reaches, distance-below, distance-is}
+use Rattle.laws.proofs.Ring.{distance-below, distance-apart, distance-part, distance-on, place-on}
 use Rattle.plan.specs.declared.Plan.{Plan}
 use Rattle.plan.specs.Sending.{own, sends}
 use Rattle.plan.specs.Tested.{Sound}
 use Rattle.plan.proofs.Sound.{sends-by, own-sends, own-in-frame}
-use Rattle.gap.specs.Gap.{predecessor, distanceFor, gapOf}
-use Rattle.gap.proofs.Facts.{slotsToNext, NextAt}
+use Rattle.gap.specs.Gap.{predecessor, distanceBefore, distanceFor, gapOf}
+use Rattle.gap.proofs.Facts.{Nearest, slotsToNextAmong, NextSlot, slotsToNext, NextAt, next-sender}
 use Rattle.gap.proofs.Others.{other}
-use Rattle.gap.proofs.Back.{before-own}
+use Rattle.gap.proofs.Back.{own-nearest}
 
 -- what a search forward from i finds, where it is known that it finds something
 record FirstAt (f : ℕ → Bool) (i k : ℕ) : Type 0 where
@@ -50,85 +50,57 @@ first-below f i k far w h t = go (decLe k far)
     go (yes l) = l
     go (no l) = clash (f far) t (w .clear far h (omega arith))
 
--- d places on from p
-pub mod-reaches : (C p d : ℕ) → p < C → d < C → Reaches C p d ((p + d) % C)
-mod-reaches C p d hp hd = go (decLt (p + d) C)
-  where
-    go : Dec (p + d < C) → Reaches C p d ((p + d) % C)
-    go (yes l) = on (sym (mod-eq-of-lt l))
-    go (no l) = round (omega (arith, mod-once (p + d) C (omega arith) (omega arith)))
+module _ (sending : ℕ → Bool) (C p : ℕ) (hp : p < C) where
+  -- a sending slot passes the search at its distance
+  passes-at : (x : ℕ) → x < C → sending x ≡ true → sending ((p + distance C p x) % C) ≡ true
+  passes-at x hx sx = rw (place-on C p x hp hx) sx
 
-pub reaches-mod : (C p d s : ℕ) → p < C → d < C → s < C → Reaches C p d s → (p + d) % C ≡ s
-reaches-mod C p d s hp hd hs (on e) = rw e (mod-eq-of-lt hs)
-reaches-mod C p d s hp hd hs (round e) = mod-once (p + d) C (omega arith) (omega arith) ∙ omega arith
-
-module _ (P : Plan) (o : Sound P) (p : ℕ) (hp : p < P .frame .0) where
-  on-sends : ℕ → Bool
-  on-sends d = sends P ((p + d) % P .frame .0)
-
-  -- a node's slot passes the search at its distance
-  passes-own : (j : ℕ) → j < P .nodes .0 → on-sends (distance (P .frame .0) p (own P j)) ≡ true
-  unfolding on-sends
-  passes-own j hj =
-      let C = P .frame .0 in
-      let hs : own P j < C = own-in-frame P o j hj in
-      rw (reaches-mod C p (distance C p (own P j)) (own P j) hp (distance-below C p (own P j) (omega arith)) hs (distance-reaches C p (own P j) hp hs))
-      (own-sends P j hj)
-
-  pub next-at : NextAt P p (slotsToNext P p)
-  unfolding slotsToNext on-sends
-  next-at =
-      let C = P .frame .0 in
-      let k = slotsToNext P p in
-      let j = other P o p in
-      let hs : own P (j .by) < C = own-in-frame P o (j .by) (j .below) in
-      let far = distance C p (own P (j .by)) in
-      let lf : far < C = distance-below C p (own P (j .by)) (omega arith) in
-      let one : 1 ≤ far = apart (distance-reaches C p (own P (j .by)) hp hs) (j .silent) hp hs in
-      let w : FirstAt on-sends 1 k = first-from on-sends (C - 1) 1 far one (omega arith) (passes-own (j .by) (j .below)) in
-      let le : k ≤ far = first-below on-sends 1 k far w one (passes-own (j .by) (j .below)) in
-      let b = sends-by P ((p + k) % C) (w .passes) in
+  pub next-slot : (w : ℕ) → w < C → sending w ≡ true → w ≢ p → NextSlot sending C p (slotsToNextAmong sending C p)
+  next-slot w hw sw n =
+      let f : ℕ → Bool = λ d. sending ((p + d) % C) in
+      let k = slotsToNextAmong sending C p in
+      let far = distance C p w in
+      let lf : far < C = distance-below C p w (omega arith) in
+      let one : 1 ≤ far = distance-apart C p w hp hw (λ z. n (sym z)) in
+      let first : FirstAt f 1 k = first-from f (C - 1) 1 far one (omega arith) (passes-at w hw sw) in
+      let le : k ≤ far = first-below f 1 k far first one (passes-at w hw sw) in
       record {
-        one = w .low;
+        one = first .low;
         short = omega arith;
-        by = b .by;
-        below = b .below;
-        away = rw (b .slot) (distance-is C p ((p + k) % C) k hp (mod-lt (p + k) (omega arith)) (omega arith) (mod-reaches C p k hp (omega arith)));
-        near = λ i hi h. first-below on-sends 1 k (distance C p (own P i)) w h (passes-own i hi);
+        slot = (p + k) % C;
+        within = mod-lt (p + k) (omega arith);
+        sent = first .passes;
+        away = distance-on C p k hp (omega arith);
+        near = λ x hx sx h. first-below f 1 k (distance C p x) first h (passes-at x hx sx);
       }
-    where
-      apart : {C x d s : ℕ} → Reaches C x d s → s ≢ x → x < C → s < C → 1 ≤ d
-      apart (on a) n hx hs = omega arith
-      apart (round a) n hx hs = omega arith
-
-  -- a sending slot within k of s, where s is k from p and q is d before s, lies k − d from p
-  between : (C k d q s : ℕ) → p < C → q < C → d ≤ k → Reaches C p k s → Reaches C q d s → Reaches C p (k - d) q
-  between C k d q s hp hq l (on a) (on b) = on (omega arith)
-  between C k d q s hp hq l (on a) (round b) = absurd (omega arith)
-  between C k d q s hp hq l (round a) (on b) = round (omega arith)
-  between C k d q s hp hq l (round a) (round b) = on (omega arith)
 
   -- the next sending slot is no farther than its own predecessor
-  pub next-within-own : slotsToNext P p ≤ distanceFor P (next-at .by)
-  next-within-own = go (decLe (slotsToNext P p) (distanceFor P (next-at .by)))
+  pub next-no-farther : (k q : ℕ) (n : NextSlot sending C p k) → Nearest sending C (n .slot) q → k ≤ distance C q (n .slot)
+  next-no-farther k q n b = go (decLe k (distance C q (n .slot)))
     where
-      go : Dec (slotsToNext P p ≤ distanceFor P (next-at .by)) → slotsToNext P p ≤ distanceFor P (next-at .by)
+      go : Dec (k ≤ distance C q (n .slot)) → k ≤ distance C q (n .slot)
       go (yes l) = l
       go (no l) =
-          let C = P .frame .0 in
-          let n = next-at in
-          let k = slotsToNext P p in
-          let s = own P (n .by) in
-          let hs : s < C = own-in-frame P o (n .by) (n .below) in
-          let b = before-own P o (n .by) (n .below) in
-          let q = predecessor P s in
-          let d = distanceFor P (n .by) in
-          let v = sends-by P q (b .sending) in
-          let rs : Reaches C p k s = rw (n .away) at (distance-reaches C p s hp hs) in
-          let rq : Reaches C q d s = rw (b .away) at (distance-reaches C q s (b .within) hs) in
-          let e : distance C p (own P (v .by)) ≡ k - d = rw (v .slot) (distance-is C p q (k - d) hp (b .within) (omega (arith, n .short)) (between C k d q s hp (b .within) (omega arith) rs rq)) in
-          absurd (omega (arith, n .near (v .by) (v .below) (omega (arith, e)), e, b .next .one, n .one))
+          let part = distance-part C p q (n .slot) hp (b .within) (n .within) (omega (arith, n .away)) in
+          let one = distance-apart C q (n .slot) (b .within) (n .within) (b .other) in
+          absurd (omega (arith, part, n .away, n .near q (b .within) (b .sent) (omega (arith, part, n .away))))
+
+module _ (P : Plan) (o : Sound P) (p : ℕ) (hp : p < P .frame .0) where
+  next-sending : NextSlot (sends P) (P .frame .0) p (slotsToNext P p)
+  unfolding slotsToNext
+  next-sending =
+      let w = other P o p in
+      next-slot (sends P) (P .frame .0) p hp (own P (w .by)) (own-in-frame P o (w .by) (w .below)) (own-sends P (w .by) (w .below)) (w .silent)
+
+  pub next-at : NextAt P p (slotsToNext P p)
+  next-at = next-sender P o p (slotsToNext P p) next-sending
 
   pub next-within : slotsToNext P p ≤ gapOf P
-  unfolding gapOf
-  next-within = omega (arith, next-within-own, largest-above (P .nodes .0) (distanceFor P) (next-at .by) (next-at .below))
+  unfolding gapOf predecessor distanceBefore
+  next-within =
+      let n = next-sending in
+      let b = sends-by P (n .slot) (n .sent) in
+      let q : Nearest (sends P) (P .frame .0) (n .slot) (predecessor P (n .slot)) = rw (b .slot) at (own-nearest P o (b .by) (b .below)) in
+      let no-farther = next-no-farther (sends P) (P .frame .0) p hp (slotsToNext P p) (predecessor P (n .slot)) n q in
+      let largest = largest-above (P .nodes .0) (distanceFor P) (b .by) (b .below) in
+      omega (arith, no-farther, rw (b .slot) at largest)

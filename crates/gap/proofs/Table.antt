@@ -16,7 +16,7 @@ use Rattle.laws.specs.Below.{anyBelow}
 use Rattle.laws.proofs.Bools.{or-true-right}
 use Rattle.laws.proofs.Ring.{mod-once}
 use Rattle.plan.specs.declared.Plan.{Plan}
-use Rattle.plan.specs.Sending.{own, sendsBelow, sends}
+use Rattle.plan.specs.Sending.{own, sendsBelow}
 use Rattle.gap.specs.Gap.{slotBefore, nearest}
 use Rattle.laws.proofs.Overs.{getD-over}
 use Rattle.gap.specs.declared.Distances.{Distances}
@@ -96,8 +96,8 @@ marked-more P i table l m s = go (ℕ-discrete s (own P i))
         or-false true = refl
         or-false false = refl
 
-pub taken-sends : (P : Plan) (table : List ℕ) → Occupied P table → (s : ℕ) → taken table s ≡ sends P s
-taken-sends P table o s = go (sends P s) (o .marks s)
+pub taken-sends : (sending : ℕ → Bool) (table : List ℕ) → Occupied sending table → (s : ℕ) → taken table s ≡ sending s
+taken-sends sending table o s = go (sending s) (o .marks s)
   where
     go : (b : Bool) → getD table s 0 ≡ cond b 1 0 → taken table s ≡ b
     go true e = eq-eqb (getD table s 0) 1 e

@@ -7,7 +7,7 @@ use lib.ListN.{length, getD, replicate}
 use lib.Dec.{eqb}
 use Rattle.laws.specs.Over.{over}
 use Rattle.plan.specs.declared.Plan.{Plan}
-use Rattle.plan.specs.Sending.{own, sends}
+use Rattle.plan.specs.Sending.{own}
 use Rattle.gap.specs.declared.NodeDistance.{NodeDistance}
 use Rattle.gap.specs.declared.Distances.{Distances}
 use Rattle.gap.specs.Gap.{predecessor, distanceBefore}
@@ -20,10 +20,10 @@ taken table s = eqb (getD table s 0) 1
 abbrev pub Free : List ℕ → (s n : ℕ) → Type 0
 Free table s n = (j : ℕ) → j < n → taken table (s - j) ≡ false
 
--- A table that holds 1 for each sending slot of the plan and 0 for every other.
-pub record Occupied (P : Plan) (table : List ℕ) : Type 0 where
+-- A table that holds 1 for each slot that somebody sends in and 0 for every other.
+pub record Occupied (sending : ℕ → Bool) (table : List ℕ) : Type 0 where
   pub long : 4096 ≤ length table
-  pub marks : (s : ℕ) → getD table s 0 ≡ cond (sends P s) 1 0
+  pub marks : (s : ℕ) → getD table s 0 ≡ cond (sending s) 1 0
 
 -- The predecessor of slot s, and D(s).
 abbrev pub nodeDistance : Plan → ℕ → NodeDistance

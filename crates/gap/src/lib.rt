@@ -5,6 +5,7 @@ ghost use mathlib.Core.Path.{_≡_};
 ghost use Prim.Native.Nat.{_≤_, _<_, min, max};
 ghost use lib.ListN.{length};
 ghost use Rattle.laws.specs.Ring.{distance};
+ghost use Rattle.plan.specs.Sending.{sends};
 ghost use Rattle.plan.specs.Tested.{planNumber, Sound};
 ghost use Rattle.gap.specs.Gap.{slotBefore, nearest, gapOf};
 ghost use Rattle.gap.specs.Distances.{Occupied, taken, Free, nodeDistance, distancesOf};
@@ -23,7 +24,7 @@ pub struct Distances {
 // The table of occupied slots: 1 where some node sends, else 0.
 fn occupied(plan: Plan, nodes: usize) -> [u8; 4096]
     requires { ⌜ (Sound plan) × (nodes ≡ plan .nodes .0) ⌝ }
-    ensures { λ r. ⌜ Occupied plan r ⌝ }
+    ensures { λ r. ⌜ Occupied (sends plan) r ⌝ }
 {
     let mut table = [0u8; 4096];
     for i in 0..nodes {
@@ -89,7 +90,7 @@ fn nearest_taken(table: &[u8], frame: Slot, left: Slot, slot: Slot) -> Slot
 }
 
 fn node_distance(plan: Plan, table: &[u8], slot: Slot) -> NodeDistance
-    requires { ⌜ (Sound plan) × (Occupied plan (now table)) × (slot .0 < plan .frame .0) ⌝ }
+    requires { ⌜ (Sound plan) × (Occupied (sends plan) (now table)) × (slot .0 < plan .frame .0) ⌝ }
     ensures { λ r. ⌜ r ≡ nodeDistance plan (slot .0) ⌝ }
 {
     let frame = plan.frame;

@@ -1,4 +1,4 @@
--- What is given out by the prepared parts is what the definition gives of the plan; each step given leaves one fewer to give.
+-- What is given out by the parts is what the definition gives of the plan; each step given leaves one fewer to give.
 use Prim.Native.Nat.{ℕ, suc, _<_}
 use mathlib.Core.Path.{_≡_, refl, sym, ap, _∙_}
 use mathlib.Core.Bool.{true}
@@ -16,14 +16,14 @@ use Rattle.shown.specs.Shown.{givenBy, givenOf}
 use Rattle.shown.proofs.Casting.{cast}
 use Rattle.shown.proofs.Giving.{given-is}
 use Rattle.shows_why.proofs.Left.{stepsLeft, Within, left-falls}
-use Rattle.judging.specs.Prepared.{Prepared}
+use Rattle.judging.specs.Failing.{Failing}
 
-module _ {P : Plan} {c : Parts} (prepared : Prepared P c) where
+module _ {P : Plan} {c : Parts} (failing : Failing P c) where
   pub sender-known : c .sender .0 < P .nodes .0
-  sender-known = rw (prepared .parts) (cast P (sound P (prepared .plain)) (prepared .rule) (prepared .fails) .roles .sender-below)
+  sender-known = rw (failing .parts) (cast P (sound P (failing .plain)) (failing .rule) (failing .fails) .roles .sender-below)
 
   pub given-whole : (q : Place) → inRange P (q .run) ≡ true → givenBy P c q ≡ givenOf P q
-  given-whole q r = ap (λ (x : Parts). givenBy P x q) (prepared .parts) ∙ sym (given-is P (prepared .rule) (prepared .plain) (prepared .fails) q r)
+  given-whole q r = ap (λ (x : Parts). givenBy P x q) (failing .parts) ∙ sym (given-is P (failing .rule) (failing .plain) (failing .fails) q r)
 
 -- the steps that are given or left, once `n` of them are left after this one
 abbrev pub leftBy : Next → ℕ → ℕ

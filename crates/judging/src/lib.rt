@@ -2,9 +2,7 @@
 // The plan is tested and prepared once; text waits in a buffer and goes out in blocks.
 ghost use mathlib.Core.Path.{_≡_};
 ghost use Rattle.plan.specs.Tested.{planNumber};
-ghost use Rattle.judging.specs.Prepared.{Prepared};
-use gap::distances_tested;
-use gap::gap_tested;
+ghost use Rattle.judging.specs.Failing.{Failing};
 use libc::STDOUT_FILENO;
 use lines::Wrote;
 use lines::write_judged;
@@ -16,7 +14,7 @@ use plan_file::Read;
 use plan_file::read_plan;
 use rules::Judged;
 use rules::Outcome;
-use rules::verdict_tested;
+use rules::prepare;
 use run::Apart;
 use run::Run;
 use run::Step;
@@ -70,7 +68,7 @@ fn put_apart(out: &mut [u8], waiting: usize, apart: Apart) -> usize {
 // The whole shown run, step by step from place to place, and how it is out of step then.
 // It ends because each step leaves one fewer of the steps that the shown run has.
 fn show(plan: Plan, parts: Parts, out: &mut [u8], from: usize)
-    requires { ⌜ Prepared plan parts ⌝ }
+    requires { ⌜ Failing plan parts ⌝ }
 {
     let mut given = given_tested(plan, parts, fresh_place());
     let mut waiting = from;
@@ -93,16 +91,15 @@ fn show(plan: Plan, parts: Parts, out: &mut [u8], from: usize)
 fn judged(plan: Plan, out: &mut [u8])
     requires { ⌜ planNumber plan ≡ 0 ⌝ }
 {
-    let distances = distances_tested(plan);
-    let gap = gap_tested(plan, distances);
-    let verdict = verdict_tested(plan, gap);
+    let prepared = prepare(plan);
+    let verdict = prepared.verdict;
     let waiting = waiting_after(write_judged(out, 0, plan.nodes, Judged::Gives(verdict)), 0);
     let outcome = verdict.outcome;
     let Outcome::Fails(rule) = outcome else {
         flushed(out, waiting);
         return;
     };
-    let parts = parts_tested(plan, distances, gap, rule);
+    let parts = parts_tested(plan, prepared.distances, verdict.gap, rule);
     show(plan, parts, out, waiting);
 }
 

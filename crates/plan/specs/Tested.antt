@@ -2,7 +2,7 @@
 use Prim.Native.Nat.{ℕ, _+_, _≤_, _<_}
 use mathlib.Core.Path.{_≡_}
 use mathlib.Core.Bool.{Bool, true, not, _||_}
-use mathlib.Core.List.{List, [], _∷_}
+use mathlib.Core.List.{List, [], _∷_, _++_}
 use lib.Dec.{eqb, leb, ltb}
 use Rattle.laws.specs.Row.{Row, given, firstOf, outside}
 use Rattle.laws.specs.Below.{anyBelow}
@@ -34,19 +34,62 @@ sharesSlot P i = sendsBelow P i (own P i)
 unfoldable pub someShared : Plan → Bool
 someShared P = anyBelow (P .nodes .0) (sharesSlot P)
 
--- The rows of the table, in the order of the tests.
+-- The rows of the table, each by its number.
+
+-- 1: N is outside 3 to 32.
+abbrev pub nodesRow : Plan → Row
+nodesRow P = given nodes-outside (outside 3 32 (P .nodes .0))
+
+-- 2: C is outside 3 to 4,096.
+abbrev pub frameRow : Plan → Row
+frameRow P = given frame-outside (outside 3 4096 (P .frame .0))
+
+-- 3
+abbrev pub activeRow : Plan → Row
+activeRow P = given active-outside (activeOutside P)
+
+-- 4: k0 is outside 4 to 255.
+abbrev pub ticksRow : Plan → Row
+ticksRow P = given ticks-outside (outside 4 255 (P .ticks .0))
+
+-- 5
+abbrev pub guardOrTailRow : Plan → Row
+guardOrTailRow P = given guard-or-tail-wrong (guardOrTailWrong P)
+
+-- 6
+abbrev pub minOrMaxRow : Plan → Row
+minOrMaxRow P = given min-or-max-wrong (minOrMaxWrong P)
+
+-- 7
+abbrev pub notActiveRow : Plan → Row
+notActiveRow P = given slot-not-active (someNotActive P)
+
+-- 8
+abbrev pub sharedRow : Plan → Row
+sharedRow P = given slot-shared (someShared P)
+
+-- 9: nobody sends in slot 0.
+abbrev pub slot0Row : Plan → Row
+slot0Row P = given slot-0-silent (not (sends P 0))
+
+-- The nodes and the frame: 1 to 3.
+abbrev pub frameRows : Plan → List Row
+frameRows P = nodesRow P ∷ frameRow P ∷ activeRow P ∷ []
+
+-- The ticks and the time between them: 4 to 6.
+abbrev pub ticksRows : Plan → List Row
+ticksRows P = ticksRow P ∷ guardOrTailRow P ∷ minOrMaxRow P ∷ []
+
+-- The sending slots: 7 to 9.
+abbrev pub slotRows : Plan → List Row
+slotRows P = notActiveRow P ∷ sharedRow P ∷ slot0Row P ∷ []
+
+-- The plan's rows, in the order of the tests: first those of its numbers, then those of its slots.
+abbrev pub numberRows : Plan → List Row
+numberRows P = frameRows P ++ ticksRows P
+
 abbrev pub planRows : Plan → List Row
-planRows P =
-    given nodes-outside (outside 3 32 (P .nodes .0))
-    ∷ given frame-outside (outside 3 4096 (P .frame .0))
-    ∷ given active-outside (activeOutside P)
-    ∷ given ticks-outside (outside 4 255 (P .ticks .0))
-    ∷ given guard-or-tail-wrong (guardOrTailWrong P)
-    ∷ given min-or-max-wrong (minOrMaxWrong P)
-    ∷ given slot-not-active (someNotActive P)
-    ∷ given slot-shared (someShared P)
-    ∷ given slot-0-silent (not (sends P 0))
-    ∷ []
+planRows P = numberRows P ++ slotRows P
 
 -- The first of refusals 1 to 9 that speaks against a plan; 0 where they let it through.
 unfoldable pub planNumber : Plan → ℕ

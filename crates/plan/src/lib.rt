@@ -1,9 +1,9 @@
 // The numbers of a plan, each kind of number a type of its own, and refusals 1 to 9.
 ghost use mathlib.Core.Path.{_≡_};
 ghost use Prim.Native.Nat.{_≤_, _<_};
-ghost use Rattle.laws.specs.Row.{outside};
+ghost use Rattle.laws.specs.Row.{firstOf, outside};
 ghost use Rattle.plan.specs.Sending.{sendsBelow};
-ghost use Rattle.plan.specs.Tested.{activeOutside, guardOrTailWrong, minOrMaxWrong, sharesSlot, someNotActive, someShared, planNumber};
+ghost use Rattle.plan.specs.Tested.{activeOutside, guardOrTailWrong, minOrMaxWrong, sharesSlot, someNotActive, someShared, frameRows, ticksRows, slotRows, planNumber};
 
 mod refusals;
 
@@ -154,9 +154,9 @@ fn some_shared(plan: Plan, nodes: usize) -> bool
     false
 }
 
-// The first of refusals 1 to 9 that speaks against the plan, in the table's order; 0 where they let it through.
-pub fn plan_number(plan: Plan) -> u8
-    ensures { λ r. ⌜ r ≡ planNumber plan ⌝ }
+// Which of 1 to 3 speaks first; 0 where none does.
+fn frame_number(plan: Plan) -> u8
+    ensures { λ r. ⌜ r ≡ firstOf (frameRows plan) ⌝ }
 {
     if is_outside(3, 32, plan.nodes.0) {
         return NODES_OUTSIDE;
@@ -167,6 +167,13 @@ pub fn plan_number(plan: Plan) -> u8
     if active_outside(plan) {
         return ACTIVE_OUTSIDE;
     }
+    0
+}
+
+// Which of 4 to 6 speaks first; 0 where none does.
+fn ticks_number(plan: Plan) -> u8
+    ensures { λ r. ⌜ r ≡ firstOf (ticksRows plan) ⌝ }
+{
     if is_outside(4, 255, plan.ticks.0 as u32) {
         return TICKS_OUTSIDE;
     }
@@ -176,7 +183,14 @@ pub fn plan_number(plan: Plan) -> u8
     if min_or_max_wrong(plan) {
         return MIN_OR_MAX_WRONG;
     }
-    let nodes = plan.nodes.0 as usize;
+    0
+}
+
+// Which of 7 to 9 speaks first; 0 where none does.
+fn slots_number(plan: Plan, nodes: usize) -> u8
+    requires { ⌜ (nodes ≡ plan .nodes .0) × (nodes ≤ 32) ⌝ }
+    ensures { λ r. ⌜ r ≡ firstOf (slotRows plan) ⌝ }
+{
     if some_not_active(plan, nodes) {
         return SLOT_NOT_ACTIVE;
     }
@@ -187,4 +201,19 @@ pub fn plan_number(plan: Plan) -> u8
         return SLOT_0_SILENT;
     }
     0
+}
+
+// The first of refusals 1 to 9 that speaks against the plan, in the table's order; 0 where they let it through.
+pub fn plan_number(plan: Plan) -> u8
+    ensures { λ r. ⌜ r ≡ planNumber plan ⌝ }
+{
+    let frame = frame_number(plan);
+    if frame != 0 {
+        return frame;
+    }
+    let ticks = ticks_number(plan);
+    if ticks != 0 {
+        return ticks;
+    }
+    slots_number(plan, plan.nodes.0 as usize)
 }

@@ -18,6 +18,7 @@ use Rattle.gap.proofs.gap_tested.Reads as gap-tested
 use Rattle.gap.proofs.smaller.Reads as smaller
 use Rattle.rules.proofs.judge.Reads as judge
 use Rattle.rules.proofs.verdict_tested.Reads as verdict-tested
+use Rattle.rules.proofs.prepare.Reads as prepare
 use Rattle.rules.proofs.rule_number.Reads as rule-number
 use Rattle.run.proofs.fresh.Reads as fresh
 use Rattle.elsewhere.proofs.out_of_step.Reads as out-of-step
@@ -98,6 +99,9 @@ judge-one κ a x y l m p q = p ∙ sym q
 
 pub verdict-tested-one : OneAnswer verdict-tested.Post
 verdict-tested-one κ a x y l m p q = p ∙ sym q
+
+pub prepare-one : OneAnswer prepare.Post
+prepare-one κ a x y l m p q = p ∙ sym q
 
 pub rule-number-one : OneAnswer rule-number.Post
 rule-number-one κ a x y l m p q = p ∙ sym q

@@ -1,3 +1,4 @@
 pub mod Distances
 pub mod Failing
 pub mod Stars
+pub mod Preparing

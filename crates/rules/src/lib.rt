@@ -1,4 +1,5 @@
 // The three rules and the verdict.
+use gap::Distances;
 use plan::Plan;
 use plan::Slot;
 use plan::Time;
@@ -8,6 +9,7 @@ ghost use Rattle.plan.specs.Tested.{planNumber, Sound};
 ghost use Rattle.gap.specs.Gap.{gapOf};
 ghost use Rattle.rules.specs.declared.Rule.the-variants.{One, Two, Three};
 ghost use Rattle.rules.specs.Rules.{ruleNumber, sidesAt, outcomeBy, verdictOf, judgedOf};
+ghost use Rattle.rules.specs.Preparing.{preparedOf};
 
 pub enum Rule {
     One,
@@ -34,6 +36,12 @@ pub struct Verdict {
     pub two: Sides,
     pub three: Sides,
     pub outcome: Outcome,
+}
+
+// What is found of a plan once: every node's predecessor and D, and the verdict, with M in it.
+pub struct Prepared {
+    pub distances: Distances,
+    pub verdict: Verdict,
 }
 
 pub enum Judged {
@@ -135,6 +143,20 @@ pub fn verdict_tested(plan: Plan, gap: Slot) -> Verdict
     }
 }
 
+// What every answer about a tested plan goes on from.
+pub fn prepare(plan: Plan) -> Prepared
+    requires { ⌜ planNumber plan ≡ 0 ⌝ }
+    ensures { λ r. ⌜ r ≡ preparedOf plan ⌝ }
+{
+    let distances = gap::distances_tested(plan);
+    let gap = gap::gap_tested(plan, distances);
+    let verdict = verdict_tested(plan, gap);
+    Prepared {
+        distances: distances,
+        verdict: verdict,
+    }
+}
+
 // The judge: any plan to its verdict, or to the first of refusals 1 to 9 that speaks against it.
 pub fn judge(plan: Plan) -> Judged
     ensures { λ r. ⌜ r ≡ judgedOf plan ⌝ }
@@ -143,7 +165,7 @@ pub fn judge(plan: Plan) -> Judged
     if number != 0 {
         return Judged::Refused(number);
     }
-    let distances = gap::distances_tested(plan);
-    let gap = gap::gap_tested(plan, distances);
-    Judged::Gives(verdict_tested(plan, gap))
+    let prepared = prepare(plan);
+    let verdict = prepared.verdict;
+    Judged::Gives(verdict)
 }

@@ -14,7 +14,7 @@ use Rattle.plan.specs.declared.Plan.{Plan}
 use Rattle.plan.specs.Sending.{own, sends}
 use Rattle.plan.specs.Tested.{Sound}
 use Rattle.plan.proofs.Sound.{sends-by}
-use Rattle.gap.specs.Gap.{predecessor, distanceFor, gapOf}
+use Rattle.gap.specs.Gap.{predecessor, distanceBefore, distanceFor, gapOf}
 use Rattle.gap.proofs.Facts.{Before}
 use Rattle.gap.proofs.Others.{other, third}
 use Rattle.gap.proofs.Back.{before-own}
@@ -51,7 +51,7 @@ module _ (P : Plan) (o : Sound P) where
       go false q = absurd (let z : P .frame .0 ≡ p = rw q at e in omega arith)
 
   pub widest : Widest (widestNode P) (widestFrom P)
-  unfolding gapOf widestFrom widestNode predecessorAt
+  unfolding gapOf distanceBefore widestFrom widestNode predecessorAt
   widest =
       let w = largest-reached (P .nodes .0) (distanceFor P) (omega (arith, o .nodes-low)) in
       let at : predecessorAt P (gapOf P) (w .at) ≡ predecessor P (own P (w .at)) = rw (eq-eqb (distanceFor P (w .at)) (gapOf P) (w .value)) in

@@ -1,7 +1,7 @@
 -- After i turns `widest` is the largest of the first i distances; `distances-at` says that each is its node's D.
 use Rattle.gap.proofs.Table.{distances-at}
 use Rattle.gap.specs.Distances.{noDistance}
-use Rattle.gap.specs.Gap.{distanceFor, gapOf}
+use Rattle.gap.specs.Gap.{distanceBefore, distanceFor, gapOf}
 use Rattle.gap.specs.declared.NodeDistance.{NodeDistance}
 use Rattle.plan.proofs.Sound.{sound}
 use Rattle.laws.proofs.Belows.{largest-none, largest-more, largest-same}
@@ -49,7 +49,7 @@ loop-again c = let a = c .before .before .before .before .before .args in
     (omega arith, c .larger .ensures ∙ rw (l .inv .1) (sym (largest-more (l .i) (λ (k : ℕ). getD (a .t2 .nodes) k noDistance .distance .0))))
 
 returns : tie.Need-returns Inv-loop μ-loop
-unfolding gapOf
+unfolding gapOf distanceBefore
 returns c = let l = c .before .loop in
     let a = c .before .before .before .args in
     let e : l .i ≡ a .plan .nodes .0 = omega arith in

@@ -34,7 +34,7 @@ unfolding predecessor distanceBefore distance
 returns c = let a = c .before .before .before .before .before .before .before .before .before .args in
     let C = a .plan .frame .0 in
     let back = c .before .before .before .before .before .before .slot-before .ensures in
-    let same = nearest-same (taken (now (a .table))) (sends (a .plan)) C (C - 1) (slotBefore C (a .slot .0)) (rw (back .0) at (back .1)) (λ x l. taken-sends (a .plan) (now (a .table)) (c .before .before .before .before .before .before .before .before .before .pre .1) x) in
+    let same = nearest-same (taken (now (a .table))) (sends (a .plan)) C (C - 1) (slotBefore C (a .slot .0)) (rw (back .0) at (back .1)) (λ x l. taken-sends (sends (a .plan)) (now (a .table)) (c .before .before .before .before .before .before .before .before .before .pre .1) x) in
     let p : c .before .before .before .before .nearest-taken .result .0 ≡ predecessor (a .plan) (a .slot .0) = rw (back .0) at (c .before .before .before .before .nearest-taken .ensures .0) ∙ same in
     λ j. record { predecessor = record { 0 = p j }; distance = record { 0 = (a .slot .0 + C - p j) % C } }
 

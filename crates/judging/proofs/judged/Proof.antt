@@ -1,18 +1,13 @@
--- The verdict is of the plan that was tested, so a failed rule is the verdict's and the parts are that rule's.
+-- What was prepared is of the plan that was tested, so a failed rule is the verdict's and the parts are that rule's.
 use mathlib.Core.Path.{sym, ap, _∙_}
-use Rattle.rules.specs.declared.Verdict.{Verdict}
+use Rattle.rules.specs.declared.Prepared.{Prepared}
+use Rattle.rules.proofs.Preparing.{prepared-gap}
 use borrow.Author.Needs.{needs}
 use Rattle.judging.proofs.judged.Statement.{statement}
 use Rattle.judging.proofs.judged.Tie as tie
 
-distances-tested-requires : tie.Need-distances-tested-requires
-distances-tested-requires c κs = search needs
-
-gap-tested-requires : tie.Need-gap-tested-requires
-gap-tested-requires c κs = search needs
-
-verdict-tested-requires : tie.Need-verdict-tested-requires
-verdict-tested-requires c κs = search needs
+prepare-requires : tie.Need-prepare-requires
+prepare-requires c κs = search needs
 
 write-judged-requires : tie.Need-write-judged-requires
 write-judged-requires c κs = search needs
@@ -36,16 +31,18 @@ returns : tie.Need-returns
 returns c = search needs
 
 parts-tested-requires : tie.Need-parts-tested-requires
-parts-tested-requires c κs = search needs
+parts-tested-requires c κs =
+    let p = c .before .before .before .before .before .before .before .before .before in
+    (p .before .before .pre, (ap (λ (x : Prepared). x .distances) (p .prepare .ensures), prepared-gap _ (p .prepare .result) (p .prepare .ensures)))
 
 show-requires : tie.Need-show-requires
 show-requires c κs =
     let o = c .before .before .before in
-    let b = o .before .before .before .before .before .before .before .before .before .before .before in
+    let p = o .before .before .before .before .before .before .before .before in
     record {
-      plain = b .pre;
+      plain = p .before .before .pre;
       rule = o .outcome .given .0 .0;
-      fails = ap (λ (v : Verdict). v .outcome) (sym (o .before .before .before .before .before .before .before .verdict-tested .ensures)) ∙ o .outcome .given .1;
+      fails = ap (λ (x : Prepared). x .verdict .outcome) (sym (p .prepare .ensures)) ∙ o .outcome .given .1;
       parts = c .before .parts-tested .ensures;
     }
 
@@ -59,9 +56,7 @@ pub judged-spec : {M : Type 1} → statement M
 judged-spec =
     tie.close
     (tie.spec
-    distances-tested-requires
-    gap-tested-requires
-    verdict-tested-requires
+    prepare-requires
     write-judged-requires
     waiting-after-requires
     enum-known-outcome

@@ -1,4 +1,4 @@
--- What is prepared once of a plan that fails a rule.
+-- A plan that fails a rule, with the parts of its shown run.
 use mathlib.Core.Path.{_≡_}
 use Rattle.plan.specs.declared.Plan.{Plan}
 use Rattle.plan.specs.Tested.{planNumber}
@@ -9,7 +9,7 @@ use Rattle.shown.specs.declared.Parts.{Parts}
 use Rattle.shown.specs.Parts.{partsFor}
 
 -- The plan passed 1 to 9, its verdict names a rule, and these are the parts of that rule's shown run.
-pub record Prepared (P : Plan) (c : Parts) : Type 0 where
+pub record Failing (P : Plan) (c : Parts) : Type 0 where
   pub plain : planNumber P ≡ 0
   pub rule : Rule
   pub fails : verdictOf P .outcome ≡ Fails rule
