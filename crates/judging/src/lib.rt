@@ -3,6 +3,7 @@
 ghost use mathlib.Core.Path.{_≡_};
 ghost use Rattle.plan.specs.Tested.{planNumber};
 ghost use Rattle.judging.specs.Failing.{Failing};
+use elsewhere::apart_tested;
 use libc::STDOUT_FILENO;
 use lines::Wrote;
 use lines::write_judged;
@@ -18,7 +19,6 @@ use rules::prepare;
 use run::Apart;
 use run::Run;
 use run::Step;
-use elsewhere::apart_tested;
 use shown::Next;
 use shown::Parts;
 use shown::fresh_place;

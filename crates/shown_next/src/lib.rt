@@ -10,16 +10,14 @@ ghost use Rattle.shown.specs.Shown.{stays, givenBy, givenOf};
 ghost use Rattle.shown_look.specs.Looking.{seenFrom};
 use choosing::mark_after;
 use choosing::next_step;
-use gap::distances_tested;
-use gap::gap_tested;
+use elsewhere::is_out_of_step;
 use plan::Plan;
 use plan::RUN_OUTSIDE;
 use plan::plan_number;
 use rules::Outcome;
-use rules::verdict_tested;
+use rules::prepare;
 use run::Run;
 use run::in_range;
-use elsewhere::is_out_of_step;
 use shown::Given;
 use shown::Mark;
 use shown::Next;
@@ -95,13 +93,12 @@ pub fn next_shown(plan: Plan, place: Place) -> Given
     if !in_range(plan, place.run) {
         return stays(Next::Refused(RUN_OUTSIDE), place);
     }
-    let distances = distances_tested(plan);
-    let gap = gap_tested(plan, distances);
-    let verdict = verdict_tested(plan, gap);
+    let prepared = prepare(plan);
+    let verdict = prepared.verdict;
     let outcome = verdict.outcome;
     let Outcome::Fails(rule) = outcome else {
         return stays(Next::Finished, place);
     };
-    let parts = parts_tested(plan, distances, gap, rule);
+    let parts = parts_tested(plan, prepared.distances, verdict.gap, rule);
     given_tested(plan, parts, place)
 }

@@ -10,6 +10,7 @@ ghost use Rattle.run.specs.declared.Step.the-variants.{Delay, TickOf, SendOf};
 ghost use Rattle.run.specs.State.{node, isAbout, inRange};
 ghost use Rattle.run.specs.Moves.{moved};
 ghost use Rattle.run.specs.Steps.{stepRows, stepNumber, refusedWith, stepTested, stepOf};
+use elsewhere::is_out_of_step;
 use moves::delayed;
 use moves::sent;
 use moves::ticked;
@@ -30,7 +31,6 @@ use run::Step;
 use run::Stepped;
 use run::in_range;
 use run::is_about;
-use elsewhere::is_out_of_step;
 
 // Some node is about to send.
 fn some_about(plan: Plan, run: Run) -> bool

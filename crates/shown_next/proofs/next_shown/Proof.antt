@@ -10,7 +10,8 @@ use Rattle.laws.proofs.Bools.{true-not-false, false-not-true}
 use Rattle.run.specs.State.{inRange}
 use Rattle.rules.specs.Rules.{verdictOf}
 use Rattle.rules.specs.declared.Outcome.the-variants.{Accepted, Fails}
-use Rattle.rules.specs.declared.Verdict.{Verdict}
+use Rattle.rules.specs.declared.Prepared.{Prepared}
+use Rattle.rules.proofs.Preparing.{prepared-gap}
 use Rattle.plan.specs.Tested.{planNumber}
 use Rattle.plan.proofs.Sound.{sound}
 use borrow.Author.Needs.{needs}
@@ -23,8 +24,12 @@ plain c = sym (c .before .plan-number .ensures) ∙ c .if1 .left
 ranged : (c : tie.Else2) → inRange (c .before .before .before .before .args .plan) (c .before .before .before .before .args .place .run) ≡ true
 ranged c = sym (c .before .in-range .ensures) ∙ false-not-true (c .before .in-range .result) (c .if2 .left)
 
-failing : (c : tie.After-known-told) → verdictOf (c .before .before .before .before .before .before .before .before .before .before .args .plan) .outcome ≡ Fails (c .before .outcome .given .0 .0)
-failing c = ap (λ (v : Verdict). v .outcome) (sym (c .before .before .before .verdict-tested .ensures)) ∙ c .before .outcome .given .1
+-- the verdict's outcome is that of what was prepared
+judged : (c : tie.After-prepare) → verdictOf (c .before .before .before .before .before .args .plan) .outcome ≡ c .prepare .result .verdict .outcome
+judged c = ap (λ (x : Prepared). x .verdict .outcome) (sym (c .prepare .ensures))
+
+failing : (c : tie.After-known-told) → verdictOf (c .before .before .before .before .before .before .before .before .before .args .plan) .outcome ≡ Fails (c .before .outcome .given .0 .0)
+failing c = judged (c .before .before .before .before) ∙ c .before .outcome .given .1
 
 plan-number-requires : tie.Need-plan-number-requires
 plan-number-requires c κs = search needs
@@ -49,14 +54,8 @@ returns-2 c =
     let r = c .before .before .in-range in
     rw (eq-eqb (planNumber _) 0 (plain (c .before .before .before)), ← r .ensures, true-not-false (r .result) (c .before .if2 .taken)) (c .stays2 .ensures)
 
-distances-tested-requires : tie.Need-distances-tested-requires
-distances-tested-requires c κs = search needs
-
-gap-tested-requires : tie.Need-gap-tested-requires
-gap-tested-requires c κs = search needs
-
-verdict-tested-requires : tie.Need-verdict-tested-requires
-verdict-tested-requires c κs = search needs
+prepare-requires : tie.Need-prepare-requires
+prepare-requires c κs = search needs
 
 enum-known-outcome : tie.Need-enum-known-outcome
 enum-known-outcome c = search needs
@@ -70,26 +69,28 @@ stays-requires-3 c κs = search needs
 returns-3 : tie.Need-returns-3
 unfolding givenOf givenFor
 returns-3 c =
-    let e = c .before .before .before .before .before .before in
-    let accepted : verdictOf (e .before .before .before .before .args .plan) .outcome ≡ Accepted = ap (λ (v : Verdict). v .outcome) (sym (c .before .before .before .verdict-tested .ensures)) ∙ c .before .enum-told .given .1 in
-    rw (eq-eqb (planNumber _) 0 (plain (e .before .before)), ranged e, accepted) (c .stays3 .ensures)
+    let p = c .before .before .before .before in
+    let accepted : verdictOf (p .before .before .before .before .before .args .plan) .outcome ≡ Accepted = judged p ∙ c .before .enum-told .given .1 in
+    rw (eq-eqb (planNumber _) 0 (plain (p .before .before .before)), ranged (p .before), accepted) (c .stays3 .ensures)
 
 parts-tested-requires : tie.Need-parts-tested-requires
-parts-tested-requires c κs = search needs
+parts-tested-requires c κs =
+    let p = c .before .before .before .before in
+    (plain (p .before .before .before), (ap (λ (x : Prepared). x .distances) (p .prepare .ensures), prepared-gap _ (p .prepare .result) (p .prepare .ensures)))
 
 given-tested-requires : tie.Need-given-tested-requires
 given-tested-requires c κs =
-    let e = c .before .before .before .before .before .before .before in
-    let P = e .before .before .before .before .args .plan in
-    let o = plain (e .before .before) in
-    (o, (rw (c .parts-tested .ensures) (cast P (sound P o) _ (failing (c .before)) .roles .sender-below), ranged e))
+    let p = c .before .before .before .before .before in
+    let P = p .before .before .before .before .before .args .plan in
+    let tested = plain (p .before .before .before) in
+    (tested, (rw (c .parts-tested .ensures) (cast P (sound P tested) _ (failing (c .before)) .roles .sender-below), ranged (p .before)))
 
 returns-4 : tie.Need-returns-4
 returns-4 c =
-    let e = c .before .before .before .before .before .before .before .before in
-    let a = e .before .before .before .before .args in
+    let p = c .before .before .before .before .before .before in
+    let a = p .before .before .before .before .before .args in
     c .given-tested .ensures .0 ∙ ap (λ (parts : Parts). givenBy (a .plan) parts (a .place)) (c .before .parts-tested .ensures)
-    ∙ sym (given-is (a .plan) _ (plain (e .before .before)) (failing (c .before .before)) (a .place) (ranged e))
+    ∙ sym (given-is (a .plan) _ (plain (p .before .before .before)) (failing (c .before .before)) (a .place) (ranged (p .before)))
 
 pub next-shown-spec : {M : Type 1} → statement M
 next-shown-spec =
@@ -101,9 +102,7 @@ next-shown-spec =
     in-range-requires
     stays-requires-2
     returns-2
-    distances-tested-requires
-    gap-tested-requires
-    verdict-tested-requires
+    prepare-requires
     enum-known-outcome
     enum-told
     stays-requires-3
