@@ -3,8 +3,10 @@
 //
 //     name: what is asked | N C n k0 g t min max | slots | slot of the last message | a node | another ..
 //
-// The last colon ends the name. A node is its clock, slot, time since tick, mode (0 waiting, 1 about to send, 2 sending) and
-// pending (1: yes). Places that a line tells nothing of are filled with numbers out of every range: they must not matter.
+// The last colon ends the name, and a space follows it. A node is its clock, slot, time since tick, mode (0 waiting, 1 about to
+// send, 2 sending) and pending (1: yes). No number in the fourth part: none was sent. Places that a line tells nothing of are
+// filled with numbers out of every range, 65535 in the slots and 255 65535 4294967295 2 1 in the nodes: they must not matter,
+// and must stay.
 mod list;
 mod numbers;
 mod plans;

@@ -1,4 +1,5 @@
-// Numbers of a line's parts. A number above 4294967295 is read as 4294967295.
+// Numbers of a line's parts, exact up to 4294967295; one above is read as 4294967295. (Of a clock or a slot only the low 8 or 16
+// bits are kept: `bench/run.sh cases` refuses a line with a number that is too large for its place.)
 
 // How far a line was read: the part, how many of its numbers have ended, whether one is being read, and what the one asked
 // for is so far.
