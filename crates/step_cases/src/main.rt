@@ -5,6 +5,7 @@ use case_lines::number;
 use case_lines::write_number;
 use case_lines::write_word;
 use plan::Node;
+use plan::Plan;
 use plan::Time;
 use run::Answer;
 use run::Apart;
@@ -14,6 +15,7 @@ use run::NodeState;
 use run::Reckoned;
 use run::Run;
 use run::Step;
+use run::Stepped;
 
 fn step_in(parts: &[u8]) -> Step {
     let n = number(parts, 0, 0, 0);
@@ -92,23 +94,31 @@ fn reckoned_words(reckoned: Reckoned) {
     }
 }
 
-// What the step answers, the places after it, and what the two questions say of the state before it.
+// What the step answers, and the places after it.
+fn after_words(after: Stepped) {
+    let answer = after.answer;
+    answer_words(answer);
+    let run = after.run;
+    run_words(run, 0, 4);
+    run_words(run, 31, 32);
+    let last = run.last;
+    last_word(last);
+    write_word(b"\n");
+}
+
+// What the two questions say of the state before it.
+fn before_words(plan: Plan, before: Run, node: Node) {
+    apart_words(run::out_of_step(plan, before));
+    reckoned_words(reckoning::reckon(plan, before, node));
+    write_word(b"\n");
+}
+
 fn case(parts: &[u8]) {
     let plan = case_lines::plan_in(parts);
     let before = case_lines::run_in(parts);
     let step = step_in(parts);
-    let after = desk::step_at_desk(before, plan, step);
-    let answer = after.answer;
-    answer_words(answer);
-    let run = after.run;
-    let last = run.last;
-    run_words(run, 0, 4);
-    run_words(run, 31, 32);
-    last_word(last);
-    write_word(b"\n");
-    apart_words(run::out_of_step(plan, before));
-    reckoned_words(reckoning::reckon(plan, before, Node(number(parts, 0, 0, 0))));
-    write_word(b"\n");
+    after_words(desk::step_at_desk(before, plan, step));
+    before_words(plan, before, Node(number(parts, 0, 0, 0)));
 }
 
 fn main() {
