@@ -1,6 +1,10 @@
 #!/bin/sh
 # bench/run.sh compare [seed] [count] [kind] | programs [seed] [count] | selftest [seed] | bench [seed] [section]
 # Builds what is missing and runs it: the library and the programs by rt, the rest by cargo.
+# bench/run.sh cases
+# Makes the plan files and the expected output of plan_cases, step_cases and shown_cases again, each from its data/cases. The
+# answers are worked out by the second implementation, src/model.rs, and never by a program under test: nothing that rt
+# builds is needed or run.
 here=$(cd "$(dirname "$0")" && pwd) || exit 2
 home=$(dirname "$here")
 cd "$home" || exit 2
@@ -22,6 +26,9 @@ built() {
     touch "$file"
 }
 
+if [ "$1" = cases ]; then
+    exec cargo run --quiet --offline --manifest-path "$here/Cargo.toml" -- cases
+fi
 built target/staticlib/libweftpillar.a rt staticlib weftpillar
 case $1 in
 programs | bench)

@@ -1,7 +1,9 @@
-//! The independent check and the benchmarks: `compare`, `programs`, `selftest`, `bench`. README.md says how to run them.
+//! The independent check and the benchmarks: `compare`, `programs`, `selftest`, `bench`, and the test programs' cases made
+//! again: `cases`. README.md says how to run them.
 
 mod bytes;
 mod calls;
+mod cases;
 mod compare;
 mod generator;
 #[cfg(feature = "linked")]
@@ -103,6 +105,7 @@ fn main() -> ExitCode {
         (Some("judge-model"), _, _) => judge_model(Shown::ByPlaces),
         (Some("judge-model-by-rounds"), _, _) => judge_model(Shown::ByRounds),
         (Some("stepper-model"), _, _) => stepper_model(words.get(1).map_or("", String::as_str)),
+        (Some("cases"), _, _) => cases::make_all(),
         (Some("compare"), Some(seed), Some(count)) => compare(seed, count, words.get(3)),
         (Some("programs"), Some(seed), Some(count)) => programs(seed, count.min(100_000)),
         (Some("selftest"), Some(seed), _) => selftest::run(library(), seed),
@@ -110,7 +113,7 @@ fn main() -> ExitCode {
             measure::run(library(), seed, words.get(2).map(String::as_str));
             Ok(())
         }
-        _ => Err("usage: run.sh compare [seed] [count] [kind] | programs [seed] [count] | selftest [seed] | bench [seed] [section]".to_string()),
+        _ => Err("usage: run.sh compare [seed] [count] [kind] | programs [seed] [count] | selftest [seed] | bench [seed] [section] | cases".to_string()),
     };
     match done {
         Ok(()) => ExitCode::SUCCESS,

@@ -2,7 +2,6 @@
 //! It was written from the document and not from the crates. A refusal is `Err` with its number.
 
 pub const PLACES: usize = 32;
-pub const MAX_NODES: u8 = 32;
 pub const MAX_FRAME: u16 = 4096;
 pub const MAX_TIME: u32 = 2_000_000;
 
@@ -55,9 +54,6 @@ impl Plan {
         if file.len() < 21 || file.len() != 21 + 2 * file[5] as usize {
             return Err(22);
         }
-        if !(3..=MAX_NODES).contains(&file[5]) {
-            return Err(1);
-        }
         let word = |at: usize| u16::from_be_bytes([file[at], file[at + 1]]);
         let long = |at: usize| u32::from_be_bytes([file[at], file[at + 1], file[at + 2], file[at + 3]]);
         let mut slots = [0; PLACES];
@@ -78,8 +74,11 @@ impl Plan {
         plan.tested().map(|()| plan)
     }
 
-    /// Refusals 2 to 9.
-    fn tested(&self) -> Result<(), u8> {
+    /// Refusals 1 to 9.
+    pub fn tested(&self) -> Result<(), u8> {
+        if !(3..=PLACES).contains(&self.nodes) {
+            return Err(1);
+        }
         if !(3..=MAX_FRAME).contains(&self.frame) {
             return Err(2);
         }

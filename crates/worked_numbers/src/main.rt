@@ -1,12 +1,13 @@
 // Document 01's numbers to check, and the columns with three or four nodes of the source's Tables 2, 4 and 5, run and
 // compared: a line for each, which ends `same` or `DIFFERS`. Three columns of Table 4 differ, as document 01 says: two have
 // g + t + 2 above k0, and for the third a smaller pair is accepted too.
-use libc::STDOUT_FILENO;
+use case_lines::plan_by;
+use case_lines::slots_in_order;
+use case_lines::write_number;
+use case_lines::write_word;
 use plan::Node;
 use plan::Plan;
 use plan::Slot;
-use plan::Tick;
-use plan::Time;
 use rules::Judged;
 use rules::Outcome;
 
@@ -59,31 +60,6 @@ const CASES: [[u32; 10]; 18] = [
     [3, 6, 4, 10, 5, 4, 40, 40, 0, 105],
 ];
 
-fn word(bytes: &[u8]) {
-    io::write_all(STDOUT_FILENO, bytes);
-}
-
-fn number(bytes: &[u8], n: u32) {
-    word(bytes);
-    io::print_decimal(STDOUT_FILENO, n as u64);
-}
-
-fn slots_in_order() -> [Slot; 32] {
-    let mut slots = [Slot(0); 32];
-    for i in 0..32 {
-        slots[i] = Slot(i as u16);
-    }
-    slots
-}
-
-fn slot(n: u32) -> Slot {
-    Slot((n % 65536) as u16)
-}
-
-fn ticks(n: u32) -> Tick {
-    Tick((n % 256) as u8)
-}
-
 fn outcome_number(outcome: Outcome) -> u32 {
     match outcome {
         Outcome::Accepted => 0,
@@ -111,57 +87,47 @@ fn gap_number(judged: Judged) -> u32 {
 
 fn same(yes: bool) {
     if yes {
-        word(b" same\n");
+        write_word(b" same\n");
     } else {
-        word(b" DIFFERS\n");
+        write_word(b" DIFFERS\n");
     }
 }
 
 fn judged_word(n: u32) {
     if n == 0 {
-        word(b" accepted");
+        write_word(b" accepted");
         return;
     }
     if n < 100 {
-        number(b" rule ", n);
+        write_number(b" rule ", n);
         return;
     }
-    number(b" refused ", n - 100);
+    write_number(b" refused ", n - 100);
 }
 
 // A row begins with N, C, n, k0, g, t.
 fn plan_of(c: [u32; 10], min: u32, max: u32) -> Plan {
-    let slots = slots_in_order();
-    Plan {
-        nodes: Node(c[0]),
-        frame: slot(c[1]),
-        active: slot(c[2]),
-        ticks: ticks(c[3]),
-        guard: ticks(c[4]),
-        tail: ticks(c[5]),
-        min: Time(min),
-        max: Time(max),
-        slots: slots,
-    }
+    let slots = slots_in_order(Node(c[0]), Slot(65535));
+    plan_by([c[0], c[1], c[2], c[3], c[4], c[5], min, max], slots)
 }
 
 fn plan_words(c: [u32; 10]) {
-    number(b" N ", c[0]);
-    number(b" C ", c[1]);
-    number(b" k0 ", c[3]);
-    number(b" g ", c[4]);
-    number(b" t ", c[5]);
+    write_number(b" N ", c[0]);
+    write_number(b" C ", c[1]);
+    write_number(b" k0 ", c[3]);
+    write_number(b" g ", c[4]);
+    write_number(b" t ", c[5]);
 }
 
 fn case(c: [u32; 10]) {
     let judged = rules::judge(plan_of(c, c[6], c[7]));
     let gap = gap_number(judged);
     let outcome = judged_number(judged);
-    word(b"case");
+    write_word(b"case");
     plan_words(c);
-    number(b" ", c[6]);
-    number(b"/", c[7]);
-    number(b": gap ", gap);
+    write_number(b" ", c[6]);
+    write_number(b"/", c[7]);
+    write_number(b": gap ", gap);
     judged_word(outcome);
     same(gap == c[8] && outcome == c[9]);
 }
@@ -186,16 +152,16 @@ fn smallest(c: [u32; 10]) -> u32 {
 
 fn smallest_word(found: u32) {
     if found < 1000 {
-        number(b", smallest ", found);
+        write_number(b", smallest ", found);
         return;
     }
-    word(b", smallest none");
+    write_word(b", smallest none");
 }
 
 fn column(c: [u32; 10]) {
-    number(b"table ", c[7]);
+    write_number(b"table ", c[7]);
     plan_words(c);
-    number(b": source ", c[6]);
+    write_number(b": source ", c[6]);
     judged_word(column_judged(c, c[6]));
     let found = smallest(c);
     smallest_word(found);

@@ -10,11 +10,11 @@ Inv-loop all place₀ t6 place = Unit {0}
 abbrev μ-loop : tie.MeasureT-loop
 μ-loop all place₀ t6 place = 32 - place
 
-slice-aggregate-text : tie.Need-slice-aggregate-text Inv-loop μ-loop
-slice-aggregate-text c = search needs
+slice-aggregate-write-word : tie.Need-slice-aggregate-write-word Inv-loop μ-loop
+slice-aggregate-write-word c = search needs
 
-text-requires : tie.Need-text-requires Inv-loop μ-loop
-text-requires c κs = search needs
+write-word-requires : tie.Need-write-word-requires Inv-loop μ-loop
+write-word-requires c κs = search needs
 
 loop-holds : tie.Need-loop-holds Inv-loop μ-loop
 loop-holds c = search needs
@@ -25,14 +25,14 @@ mul-slot c = search needs
 array-copy-out-slot : tie.Need-array-copy-out-slot Inv-loop μ-loop
 array-copy-out-slot c = search needs
 
-slice-aggregate-number : tie.Need-slice-aggregate-number Inv-loop μ-loop
-slice-aggregate-number c = search needs
+slice-aggregate-write-number : tie.Need-slice-aggregate-write-number Inv-loop μ-loop
+slice-aggregate-write-number c = search needs
 
-cast-number : tie.Need-cast-number Inv-loop μ-loop
-cast-number c = search needs
+cast-write-number : tie.Need-cast-write-number Inv-loop μ-loop
+cast-write-number c = search needs
 
-number-requires : tie.Need-number-requires Inv-loop μ-loop
-number-requires c κs = search needs
+write-number-requires : tie.Need-write-number-requires Inv-loop μ-loop
+write-number-requires c κs = search needs
 
 add-place : tie.Need-add-place Inv-loop μ-loop
 add-place c = search needs
@@ -52,14 +52,14 @@ slots-spec =
     (tie.spec
     Inv-loop
     μ-loop
-    slice-aggregate-text
-    text-requires
+    slice-aggregate-write-word
+    write-word-requires
     loop-holds
     mul-slot
     array-copy-out-slot
-    slice-aggregate-number
-    cast-number
-    number-requires
+    slice-aggregate-write-number
+    cast-write-number
+    write-number-requires
     add-place
     loop-less
     loop-again

@@ -1,23 +1,23 @@
 -- Safe, and ends: a byte a turn. Nothing has to hold from turn to turn.
 use Prim.Native.Nat.{_-_}
 use borrow.Author.Needs.{needs}
-use Rattle.shown_cases.proofs.number.Statement.{statement}
-use Rattle.shown_cases.proofs.number.Tie as tie
+use Rattle.case_lines.proofs.numbers.number.Statement.{statement}
+use Rattle.case_lines.proofs.numbers.number.Tie as tie
 
 abbrev Inv-loop : tie.InvT-loop
-Inv-loop numbers k scan₀ i₀ i-end scan i = Unit {0}
+Inv-loop parts part k otherwise scan₀ i₀ i-end scan i = Unit {0}
 
 abbrev μ-loop : tie.MeasureT-loop
-μ-loop numbers k scan₀ i₀ i-end scan i = i-end - i
+μ-loop parts part k otherwise scan₀ i₀ i-end scan i = i-end - i
 
 loop-holds : tie.Need-loop-holds Inv-loop μ-loop
 loop-holds c = search needs
 
-shared-slice-read-scanned : tie.Need-shared-slice-read-scanned Inv-loop μ-loop
-shared-slice-read-scanned c = search needs
+shared-slice-read-byte-read : tie.Need-shared-slice-read-byte-read Inv-loop μ-loop
+shared-slice-read-byte-read c = search needs
 
-scanned-requires : tie.Need-scanned-requires Inv-loop μ-loop
-scanned-requires c κs = search needs
+byte-read-requires : tie.Need-byte-read-requires Inv-loop μ-loop
+byte-read-requires c κs = search needs
 
 add-i : tie.Need-add-i Inv-loop μ-loop
 add-i c = search needs
@@ -38,8 +38,8 @@ number-spec =
     Inv-loop
     μ-loop
     loop-holds
-    shared-slice-read-scanned
-    scanned-requires
+    shared-slice-read-byte-read
+    byte-read-requires
     add-i
     loop-less
     loop-again

@@ -1,20 +1,23 @@
--- 32 − i falls; i is below 32, so it is a place of the array and fits in 16 bits.
+-- Safe, and ends: 32 places, one a turn. Nothing has to hold from turn to turn.
 use Prim.Native.Nat.{_-_}
 use borrow.Author.Needs.{needs}
-use Rattle.worked_numbers.proofs.slots_in_order.Statement.{statement}
-use Rattle.worked_numbers.proofs.slots_in_order.Tie as tie
+use Rattle.case_lines.proofs.plans.slots_in_order.Statement.{statement}
+use Rattle.case_lines.proofs.plans.slots_in_order.Tie as tie
 
 abbrev Inv-loop : tie.InvT-loop
-Inv-loop slots₀ i₀ slots i = Unit {0}
+Inv-loop nodes spare slots₀ place₀ slots place = Unit {0}
 
 abbrev μ-loop : tie.MeasureT-loop
-μ-loop slots₀ i₀ slots i = 32 - i
+μ-loop nodes spare slots₀ place₀ slots place = 32 - place
 
 loop-holds : tie.Need-loop-holds Inv-loop μ-loop
 loop-holds c = search needs
 
-cast-t5 : tie.Need-cast-t5 Inv-loop μ-loop
-cast-t5 c = search needs
+cast-in-order : tie.Need-cast-in-order Inv-loop μ-loop
+cast-in-order c = search needs
+
+in-order-requires : tie.Need-in-order-requires Inv-loop μ-loop
+in-order-requires c κs = search needs
 
 mul-slots : tie.Need-mul-slots Inv-loop μ-loop
 mul-slots c = search needs
@@ -22,8 +25,8 @@ mul-slots c = search needs
 array-set-from-slots : tie.Need-array-set-from-slots Inv-loop μ-loop
 array-set-from-slots c = search needs
 
-add-i : tie.Need-add-i Inv-loop μ-loop
-add-i c = search needs
+add-place : tie.Need-add-place Inv-loop μ-loop
+add-place c = search needs
 
 loop-less : tie.Need-loop-less Inv-loop μ-loop
 loop-less c = search needs
@@ -41,10 +44,11 @@ slots-in-order-spec =
     Inv-loop
     μ-loop
     loop-holds
-    cast-t5
+    cast-in-order
+    in-order-requires
     mul-slots
     array-set-from-slots
-    add-i
+    add-place
     loop-less
     loop-again
     returns)

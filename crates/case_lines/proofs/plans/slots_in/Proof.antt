@@ -1,23 +1,26 @@
 -- Safe, and ends: 32 places, one a turn. Nothing has to hold from turn to turn.
 use Prim.Native.Nat.{_-_}
 use borrow.Author.Needs.{needs}
-use Rattle.plan_cases.proofs.plan_of.Statement.{statement}
-use Rattle.plan_cases.proofs.plan_of.Tie as tie
+use Rattle.case_lines.proofs.plans.slots_in.Statement.{statement}
+use Rattle.case_lines.proofs.plans.slots_in.Tie as tie
 
 abbrev Inv-loop : tie.InvT-loop
-Inv-loop nodes spare slots₀ place₀ slots place = Unit {0}
+Inv-loop parts slots₀ place₀ slots place = Unit {0}
 
 abbrev μ-loop : tie.MeasureT-loop
-μ-loop nodes spare slots₀ place₀ slots place = 32 - place
+μ-loop parts slots₀ place₀ slots place = 32 - place
 
 loop-holds : tie.Need-loop-holds Inv-loop μ-loop
 loop-holds c = search needs
 
-cast-slot-in : tie.Need-cast-slot-in Inv-loop μ-loop
-cast-slot-in c = search needs
+cast-number : tie.Need-cast-number Inv-loop μ-loop
+cast-number c = search needs
 
-slot-in-requires : tie.Need-slot-in-requires Inv-loop μ-loop
-slot-in-requires c κs = search needs
+number-requires : tie.Need-number-requires Inv-loop μ-loop
+number-requires c κs = search needs
+
+slot-requires : tie.Need-slot-requires Inv-loop μ-loop
+slot-requires c κs = search needs
 
 mul-slots : tie.Need-mul-slots Inv-loop μ-loop
 mul-slots c = search needs
@@ -37,15 +40,16 @@ loop-again c = search needs
 returns : tie.Need-returns Inv-loop μ-loop
 returns c = search needs
 
-pub plan-of-spec : {M : Type 1} → statement M
-plan-of-spec =
+pub slots-in-spec : {M : Type 1} → statement M
+slots-in-spec =
     tie.close
     (tie.spec
     Inv-loop
     μ-loop
     loop-holds
-    cast-slot-in
-    slot-in-requires
+    cast-number
+    number-requires
+    slot-requires
     mul-slots
     array-set-from-slots
     add-place

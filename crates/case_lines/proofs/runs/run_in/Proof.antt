@@ -1,14 +1,14 @@
--- 32 − i falls; i is below 32, so it is a place of the run, and a node's bytes begin below 1,000, as `node_in` asks.
+-- Safe, and ends: 32 nodes, one a turn. Nothing has to hold from turn to turn.
 use Prim.Native.Nat.{_-_}
 use borrow.Author.Needs.{needs}
-use Rattle.step_cases.proofs.run_in.Statement.{statement}
-use Rattle.step_cases.proofs.run_in.Tie as tie
+use Rattle.case_lines.proofs.runs.run_in.Statement.{statement}
+use Rattle.case_lines.proofs.runs.run_in.Tie as tie
 
 abbrev Inv-loop : tie.InvT-loop
-Inv-loop «record» run₀ i₀ run i = Unit {0}
+Inv-loop parts run₀ i₀ run i = Unit {0}
 
 abbrev μ-loop : tie.MeasureT-loop
-μ-loop «record» run₀ i₀ run i = 32 - i
+μ-loop parts run₀ i₀ run i = 32 - i
 
 fresh-requires : tie.Need-fresh-requires Inv-loop μ-loop
 fresh-requires c κs = search needs
@@ -18,9 +18,6 @@ loop-holds c = search needs
 
 cast-node-in : tie.Need-cast-node-in Inv-loop μ-loop
 cast-node-in c = search needs
-
-mul-node-in : tie.Need-mul-node-in Inv-loop μ-loop
-mul-node-in c = search needs
 
 add-node-in : tie.Need-add-node-in Inv-loop μ-loop
 add-node-in c = search needs
@@ -58,7 +55,6 @@ run-in-spec =
     fresh-requires
     loop-holds
     cast-node-in
-    mul-node-in
     add-node-in
     node-in-requires
     mul-node
