@@ -7,7 +7,6 @@ use gap::distances_tested;
 use gap::gap_tested;
 use libc::STDOUT_FILENO;
 use lines::Wrote;
-use lines::write_judged;
 use lines::write_out;
 use lines::write_refused;
 use lines::write_step;
@@ -26,6 +25,7 @@ use shown::Parts;
 use shown::fresh_place;
 use shown::given_tested;
 use shown::parts_tested;
+use verdict_lines::write_judged;
 
 fn flushed(out: &[u8], waiting: usize) {
     if waiting <= out.len() {
