@@ -6,7 +6,6 @@ ghost use Rattle.judging.specs.Failing.{Failing};
 use elsewhere::apart_tested;
 use libc::STDOUT_FILENO;
 use lines::Wrote;
-use lines::write_judged;
 use lines::write_out;
 use lines::write_refused;
 use lines::write_step;
@@ -24,6 +23,7 @@ use shown::Parts;
 use shown::fresh_place;
 use shown_next::given_tested;
 use shown_parts::parts_tested;
+use verdict_lines::write_judged;
 
 fn flushed(out: &[u8], waiting: usize) {
     if waiting <= out.len() {

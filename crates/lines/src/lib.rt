@@ -1,145 +1,36 @@
-// The lines that the programs write: verdict, step, answer, refusal and `out` lines.
+// The lines of a run, step, `out` and answer, and the one line of a refusal.
+use letters::spell;
 use plan::Node;
-use rules::Judged;
-use rules::Outcome;
-use rules::Rule;
-use rules::Sides;
-use rules::Verdict;
-use rules::rule_number;
 use run::Answer;
 use run::Step;
+pub use text::Wrote;
+use text::has_room;
 use text::put_byte;
-use text::put_number;
+use text::put_ended;
 use text::put_numbered;
-use text::put_wide;
 use text::put_word;
 ghost use mathlib.Core.Path.{_≡_};
-ghost use mathlib.Core.Bool.{cond};
-ghost use mathlib.Core.List.{[], _∷_, _++_};
 ghost use Prim.Native.Nat.{_+_, _≤_};
 ghost use lib.ListN.{length};
-ghost use lib.Dec.{leb};
-ghost use Rattle.rules.specs.Rules.{holds};
-ghost use Rattle.text.specs.Text.{bytes, decimal, numbered, Put};
-ghost use Rattle.lines.specs.Written.{wroteOf, bufferOf};
-ghost use Rattle.lines.specs.Out.{
-  headLine,
-  ruleLine,
-  outcomeLine,
-  verdictLines,
-  refusedLine,
-  judgedText,
-  stepText,
-  answerText,
-  outText,
-};
+ghost use Rattle.text.specs.Text.{Put};
+ghost use Rattle.text.specs.Written.{wroteOf, bufferOf};
+ghost use Rattle.lines.specs.Lines.{refusedLine, stepText, answerText, outText};
 
-// Where a text ended that was written, or that there was no room for it and nothing was written.
-pub enum Wrote {
-    To(usize),
-    NoRoom,
-}
-
-// Whether `room` bytes are left from a place on in a buffer of `all` bytes.
-fn has_room(all: usize, at: usize, room: usize) -> bool
-    ensures { λ r. ⌜ r ≡ leb (at + room) all ⌝ }
-{
-    if all < room {
-        return false;
-    }
-    at <= all - room
-}
-
-fn put_head(out: &mut [u8], at: usize, nodes: u32, gap: u32) -> usize
-    requires { ⌜ at + 38 ≤ length (now out) ⌝ }
-    ensures { λ r. ⌜ Put 38 (now (out .entry)) at (headLine nodes gap) (now (out .exit)) r ⌝ }
-{
-    let first = put_numbered(out, at, b"CSP 1 nodes ", nodes);
-    let second = put_numbered(out, first, b" gap ", gap);
-    put_byte(out, second, b'\n')
-}
-
-fn put_side(out: &mut [u8], at: usize, side: u64) -> usize
-    requires { ⌜ at + 21 ≤ length (now out) ⌝ }
-    ensures { λ r. ⌜ Put 21 (now (out .entry)) at (numbered " " side) (now (out .exit)) r ⌝ }
-{
-    let first = put_byte(out, at, b' ');
-    put_wide(out, first, side)
-}
-
-fn put_holds(out: &mut [u8], at: usize, sides: Sides) -> usize
-    requires { ⌜ at + 7 ≤ length (now out) ⌝ }
-    ensures { λ r. ⌜ Put 7 (now (out .entry)) at (cond (holds sides) (bytes " holds\n") (bytes " fails\n")) (now (out .exit)) r ⌝ }
-{
-    if sides.left < sides.right {
-        return put_word(out, at, b" holds\n");
-    }
-    put_word(out, at, b" fails\n")
-}
-
-fn put_rule(out: &mut [u8], at: usize, rule: Rule, sides: Sides) -> usize
-    requires { ⌜ at + 64 ≤ length (now out) ⌝ }
-    ensures { λ r. ⌜ Put 64 (now (out .entry)) at (ruleLine rule sides) (now (out .exit)) r ⌝ }
-{
-    let first = put_numbered(out, at, b"rule ", rule_number(rule) as u32);
-    let second = put_side(out, first, sides.left);
-    let third = put_side(out, second, sides.right);
-    put_holds(out, third, sides)
-}
-
-fn put_outcome(out: &mut [u8], at: usize, outcome: Outcome) -> usize
-    requires { ⌜ at + 24 ≤ length (now out) ⌝ }
-    ensures { λ r. ⌜ Put 24 (now (out .entry)) at (outcomeLine outcome) (now (out .exit)) r ⌝ }
-{
-    match outcome {
-        Outcome::Accepted => put_word(out, at, b"verdict in step\n"),
-        Outcome::Fails(rule) => {
-            let first = put_numbered(out, at, b"verdict rule ", rule_number(rule) as u32);
-            put_byte(out, first, b'\n')
-        }
-    }
-}
-
-fn put_verdict(out: &mut [u8], at: usize, nodes: u32, verdict: Verdict) -> usize
-    requires { ⌜ at + 254 ≤ length (now out) ⌝ }
-    ensures { λ r. ⌜ Put 254 (now (out .entry)) at (verdictLines nodes verdict) (now (out .exit)) r ⌝ }
-{
-    let first = put_head(out, at, nodes, verdict.gap.0 as u32);
-    let second = put_rule(out, first, Rule::One, verdict.one);
-    let third = put_rule(out, second, Rule::Two, verdict.two);
-    let fourth = put_rule(out, third, Rule::Three, verdict.three);
-    let outcome = verdict.outcome;
-    put_outcome(out, fourth, outcome)
-}
-
-fn put_refused(out: &mut [u8], at: usize, number: u8) -> usize
+// The line of a refusal, for whoever has room for it.
+pub fn put_refused(out: &mut [u8], at: usize, number: u8) -> usize
     requires { ⌜ at + 19 ≤ length (now out) ⌝ }
     ensures { λ r. ⌜ Put 19 (now (out .entry)) at (refusedLine number) (now (out .exit)) r ⌝ }
 {
-    let first = put_numbered(out, at, b"refused ", number as u32);
-    put_byte(out, first, b'\n')
-}
-
-// A step line: the letter, a blank, the number, a newline.
-fn put_line(out: &mut [u8], at: usize, letter: u8, number: u32) -> usize
-    requires { ⌜ at + 13 ≤ length (now out) ⌝ }
-    ensures { λ r. ⌜ Put 13 (now (out .entry)) at (letter ∷ 32 ∷ (decimal number ++ (10 ∷ []))) (now (out .exit)) r ⌝ }
-{
-    let first = put_byte(out, at, letter);
-    let second = put_byte(out, first, b' ');
-    let third = put_number(out, second, number);
-    put_byte(out, third, b'\n')
+    put_ended(out, at, b"refused ", number as u32)
 }
 
 fn put_step(out: &mut [u8], at: usize, step: Step) -> usize
     requires { ⌜ at + 13 ≤ length (now out) ⌝ }
     ensures { λ r. ⌜ Put 13 (now (out .entry)) at (stepText step) (now (out .exit)) r ⌝ }
 {
-    match step {
-        Step::Delay(time) => put_line(out, at, b'D', time.0),
-        Step::TickOf(node) => put_line(out, at, b'T', node.0),
-        Step::SendOf(node) => put_line(out, at, b'S', node.0),
-    }
+    let spelt = spell(step);
+    let first = put_byte(out, at, spelt.letter);
+    put_ended(out, first, b" ", spelt.number)
 }
 
 fn put_answer(out: &mut [u8], at: usize, answer: Answer) -> usize
@@ -152,34 +43,12 @@ fn put_answer(out: &mut [u8], at: usize, answer: Answer) -> usize
     }
 }
 
-fn put_judged(out: &mut [u8], at: usize, nodes: Node, judged: Judged) -> usize
-    requires { ⌜ at + 254 ≤ length (now out) ⌝ }
-    ensures { λ r. ⌜ Put 254 (now (out .entry)) at (judgedText (nodes .0) judged) (now (out .exit)) r ⌝ }
-{
-    match judged {
-        Judged::Gives(verdict) => put_verdict(out, at, nodes.0, verdict),
-        Judged::Refused(number) => put_refused(out, at, number),
-    }
-}
-
 fn put_out(out: &mut [u8], at: usize, a: u32, b: u32) -> usize
     requires { ⌜ at + 26 ≤ length (now out) ⌝ }
     ensures { λ r. ⌜ Put 26 (now (out .entry)) at (outText a b) (now (out .exit)) r ⌝ }
 {
     let first = put_numbered(out, at, b"out ", a);
-    let second = put_numbered(out, first, b" ", b);
-    put_byte(out, second, b'\n')
-}
-
-// The five lines of a verdict, or the one of a refusal.
-pub fn write_judged(out: &mut [u8], at: usize, nodes: Node, judged: Judged) -> Wrote
-    ensures { λ r. ⌜ r ≡ wroteOf 256 (now (out .entry)) at (judgedText (nodes .0) judged) ⌝ }
-    ensures { λ _. ⌜ now (out .exit) ≡ bufferOf 256 (now (out .entry)) at (judgedText (nodes .0) judged) ⌝ }
-{
-    if has_room(out.len(), at, 256) {
-        return Wrote::To(put_judged(out, at, nodes, judged));
-    }
-    Wrote::NoRoom
+    put_ended(out, first, b" ", b)
 }
 
 // A step line.

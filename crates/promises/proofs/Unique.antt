@@ -44,18 +44,21 @@ use Rattle.shown_look.proofs.look_round.Reads as look-round
 use Rattle.shown_next.proofs.next_shown.Reads as next-shown
 use Rattle.shown_parts.proofs.parts_tested.Reads as parts-tested
 use Rattle.shown_next.proofs.given_tested.Reads as given-tested
+use Rattle.letters.proofs.spell.Reads as spell
+use Rattle.letters.proofs.is_letter.Reads as is-letter
+use Rattle.letters.proofs.step_by.Reads as step-by
+use Rattle.text.proofs.has_room.Reads as has-room
 use Rattle.text.proofs.put_byte.Reads as put-byte
 use Rattle.text.proofs.put_word.Reads as put-word
-use Rattle.text.proofs.put_number.Reads as put-number
-use Rattle.text.proofs.put_wide.Reads as put-wide
 use Rattle.text.proofs.put_numbered.Reads as put-numbered
-use Rattle.lines.proofs.write_judged.Reads as write-judged
+use Rattle.text.proofs.put_wide.Reads as put-wide
+use Rattle.text.proofs.put_ended.Reads as put-ended
+use Rattle.lines.proofs.put_refused.Reads as put-refused
 use Rattle.lines.proofs.write_step.Reads as write-step
 use Rattle.lines.proofs.write_out.Reads as write-out
 use Rattle.lines.proofs.write_answer.Reads as write-answer
 use Rattle.lines.proofs.write_refused.Reads as write-refused
-use Rattle.step_lines.proofs.is_letter.Reads as is-letter
-use Rattle.step_lines.proofs.step_by.Reads as step-by
+use Rattle.verdict_lines.proofs.write_judged.Reads as write-judged
 use Rattle.step_lines.proofs.reading_byte.Reads as reading-byte
 use Rattle.step_lines.proofs.reading_end.Reads as reading-end
 use Rattle.step_lines.proofs.read_line.Reads as read-line
@@ -190,7 +193,21 @@ parts-tested-one κ a x y l m p q = p ∙ sym q
 pub given-tested-one : OneAnswer given-tested.Post
 given-tested-one κ a x y l m p q = p .0 ∙ sym (q .0)
 
+-- letters
+
+pub spell-one : OneAnswer spell.Post
+spell-one κ a x y l m p q = p ∙ sym q
+
+pub is-letter-one : OneAnswer is-letter.Post
+is-letter-one κ a x y l m p q = p ∙ sym q
+
+pub step-by-one : OneAnswer step-by.Post
+step-by-one κ a x y l m p q = p ∙ sym q
+
 -- text: bytes put into a lent buffer
+
+pub has-room-one : OneAnswer has-room.Post
+has-room-one κ a x y l m p q = p ∙ sym q
 
 pub put-byte-one : One (λ κ l. now (l .0)) put-byte.Post
 put-byte-one = by-equations _ _ (λ κ a x l p. (p .ends, p .holds))
@@ -198,19 +215,19 @@ put-byte-one = by-equations _ _ (λ κ a x l p. (p .ends, p .holds))
 pub put-word-one : One (λ κ l. now (l .0)) put-word.Post
 put-word-one = by-equations _ _ (λ κ a x l p. (p .ends, p .holds))
 
-pub put-number-one : One (λ κ l. now (l .0)) put-number.Post
-put-number-one = by-equations _ _ (λ κ a x l p. (p .ends, p .holds))
+pub put-numbered-one : One (λ κ l. now (l .0)) put-numbered.Post
+put-numbered-one = by-equations _ _ (λ κ a x l p. (p .ends, p .holds))
 
 pub put-wide-one : One (λ κ l. now (l .0)) put-wide.Post
 put-wide-one = by-equations _ _ (λ κ a x l p. (p .ends, p .holds))
 
-pub put-numbered-one : One (λ κ l. now (l .0)) put-numbered.Post
-put-numbered-one = by-equations _ _ (λ κ a x l p. (p .ends, p .holds))
+pub put-ended-one : One (λ κ l. now (l .0)) put-ended.Post
+put-ended-one = by-equations _ _ (λ κ a x l p. (p .ends, p .holds))
 
--- lines: texts written into a lent buffer
+-- lines, verdict_lines: texts put or written into a lent buffer
 
-pub write-judged-one : One (λ κ l. now (l .0)) write-judged.Post
-write-judged-one = by-equations _ _ (λ κ a x l p. p)
+pub put-refused-one : One (λ κ l. now (l .0)) put-refused.Post
+put-refused-one = by-equations _ _ (λ κ a x l p. (p .ends, p .holds))
 
 pub write-step-one : One (λ κ l. now (l .0)) write-step.Post
 write-step-one = by-equations _ _ (λ κ a x l p. p)
@@ -224,13 +241,10 @@ write-answer-one = by-equations _ _ (λ κ a x l p. p)
 pub write-refused-one : One (λ κ l. now (l .0)) write-refused.Post
 write-refused-one = by-equations _ _ (λ κ a x l p. p)
 
+pub write-judged-one : One (λ κ l. now (l .0)) write-judged.Post
+write-judged-one = by-equations _ _ (λ κ a x l p. p)
+
 -- step_lines
-
-pub is-letter-one : OneAnswer is-letter.Post
-is-letter-one κ a x y l m p q = p ∙ sym q
-
-pub step-by-one : OneAnswer step-by.Post
-step-by-one κ a x y l m p q = p ∙ sym q
 
 pub reading-byte-one : OneAnswer reading-byte.Post
 reading-byte-one κ a x y l m p q = p ∙ sym q

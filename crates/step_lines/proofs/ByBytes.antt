@@ -14,7 +14,8 @@ use Rattle.laws.proofs.Bools.{clash, and-true-left, and-true-right, or-either, 
 use Rattle.laws.proofs.Belows.{all-at, all-ever}
 use Rattle.plan.specs.Refusals.{line-wrong}
 use Rattle.laws.specs.Bytes.{byteAt}
-use Rattle.step_lines.specs.StepLine.{isDigit, isLetter, spelled, digitCount, lineShaped, stepBy, lineOf}
+use Rattle.letters.specs.Letters.{stepBy}
+use Rattle.step_lines.specs.StepLine.{isDigit, lineLetter, spelled, digitCount, lineShaped, lineOf}
 use Rattle.step_lines.specs.Reading.{withDigit, mayFollow, readingAfter, readingOf, lineRead}
 use Rattle.step_lines.specs.declared.Line.the-variants.{Asks, Refused}
 use Rattle.step_lines.specs.declared.Reading.{Reading}
@@ -41,7 +42,7 @@ module _ (line : List ℕ) where
 
   -- A line that is a step line, or its beginning: the letter, the blank, k digits.
   record Begun (k : ℕ) : Type 0 where
-    letter : isLetter (byteAt line 0) ≡ true
+    letter : lineLetter (byteAt line 0) ≡ true
     blank : byteAt line 1 ≡ 32
     some : 1 ≤ k
     digits : (j : ℕ) → j < k → isDigit (byteAt line (2 + j)) ≡ true
@@ -103,8 +104,8 @@ module _ (line : List ℕ) where
   -- What is known of a line after its first n bytes.
   data Known (n : ℕ) : Reading → Type 0 where
     at-nothing : n ≡ 0 → Known n Nothing
-    at-letter : n ≡ 1 → isLetter (byteAt line 0) ≡ true → Known n (Letter (byteAt line 0))
-    at-blank : n ≡ 2 → isLetter (byteAt line 0) ≡ true → byteAt line 1 ≡ 32 → Known n (Blank (byteAt line 0))
+    at-letter : n ≡ 1 → lineLetter (byteAt line 0) ≡ true → Known n (Letter (byteAt line 0))
+    at-blank : n ≡ 2 → lineLetter (byteAt line 0) ≡ true → byteAt line 1 ≡ 32 → Known n (Blank (byteAt line 0))
     at-number : (k : ℕ) → n ≡ 2 + k → Begun k → Known n (Number (byteAt line 0) (spelled line k))
     at-whole : (k : ℕ) → n ≡ 3 + k → Begun k → byteAt line (2 + k) ≡ 10 → Known n (Whole (byteAt line 0) (spelled line k))
     at-wrong : (Good → ⊥) → Known n Wrong
@@ -117,7 +118,7 @@ module _ (line : List ℕ) where
       go (yes q) = absurd (other (rw q (g .newline)))
       go (no q) = omega arith
 
-  begun-one : isLetter (byteAt line 0) ≡ true → byteAt line 1 ≡ 32 → isDigit (byteAt line 2) ≡ true → Begun 1
+  begun-one : lineLetter (byteAt line 0) ≡ true → byteAt line 1 ≡ 32 → isDigit (byteAt line 2) ≡ true → Begun 1
   unfolding spelled
   begun-one letter blank t = record {
     letter = letter;
@@ -161,9 +162,9 @@ module _ (line : List ℕ) where
   known-more : (n : ℕ) (r : Reading) → Known n r → n < length line → Known (suc n) (readingAfter r (byteAt line n))
   unfolding readingAfter spelled
   known-more n r (at-nothing e) h =
-      rw e (cond-by (Known 1) (isLetter (byteAt line 0)) (Letter (byteAt line 0)) Wrong
+      rw e (cond-by (Known 1) (lineLetter (byteAt line 0)) (Letter (byteAt line 0)) Wrong
       (λ t. at-letter refl t)
-      (λ f. at-wrong (λ g. clash (isLetter (byteAt line 0)) (g .begun .letter) f)))
+      (λ f. at-wrong (λ g. clash (lineLetter (byteAt line 0)) (g .begun .letter) f)))
   known-more n r (at-letter e letter) h =
       rw e (cond-by (Known 2) (eqb (byteAt line 1) 32) (Blank (byteAt line 0)) Wrong
       (λ t. at-blank refl letter (eqb-true _ 32 t))

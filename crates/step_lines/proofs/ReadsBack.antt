@@ -8,10 +8,11 @@ use borrow.Author.Tests.{ltb-true, ltb-false, lt-ltb, le-leb, ne-eqb}
 use lib.Dec.{ltb, leb}
 use Rattle.laws.proofs.Bools.{and-both}
 use Rattle.run.specs.declared.Step.{Step}
-use Rattle.run.specs.declared.Step.the-variants.{Delay, TickOf, SendOf}
+use Rattle.letters.specs.Letters.{speltOf, stepBy}
+use Rattle.letters.proofs.Spelling.{letter-of, step-spelt}
 use Rattle.text.specs.Text.{digitsWithin, decimal}
-use Rattle.lines.specs.Out.{stepText}
-use Rattle.step_lines.specs.StepLine.{isDigit, isLetter, stepBy, lineOf}
+use Rattle.lines.specs.Lines.{stepText}
+use Rattle.step_lines.specs.StepLine.{isDigit, lineLetter, lineOf}
 use Rattle.step_lines.specs.Reading.{withDigit, readingAfter, lineRead}
 use Rattle.step_lines.specs.declared.Line.the-variants.{Asks}
 use Rattle.step_lines.specs.declared.Reading.{Reading}
@@ -41,7 +42,7 @@ read-digits letter (suc places) n h k = go (ltb n 10) refl (read-digits letter p
     go true e r = rw e (read-digit letter n (ltb-true n 10 e))
     go false e r = rw (e, foldl-append, r) (read-more letter n (ltb-false n 10 e) k)
 
-read-start : (letter : ℕ) → isLetter letter ≡ true → readingAfter (readingAfter Nothing letter) 32 ≡ Blank letter
+read-start : (letter : ℕ) → lineLetter letter ≡ true → readingAfter (readingAfter Nothing letter) 32 ≡ Blank letter
 unfolding readingAfter
 read-start letter h = rw (readingAfter, h)
 
@@ -50,7 +51,7 @@ unfolding readingAfter lineRead
 read-newline letter n = refl
 
 -- a line of this form, with a letter in front
-read-line : (letter n : ℕ) → isLetter letter ≡ true → n ≤ 4294967295 → lineOf (letter ∷ 32 ∷ (decimal n ++ (10 ∷ []))) ≡ Asks (stepBy letter n)
+read-line : (letter n : ℕ) → lineLetter letter ≡ true → n ≤ 4294967295 → lineOf (letter ∷ 32 ∷ (decimal n ++ (10 ∷ []))) ≡ Asks (stepBy letter n)
 read-line letter n h k =
     let rest : List ℕ = decimal n ++ (10 ∷ []) in
     by-bytes (letter ∷ 32 ∷ rest)
@@ -59,14 +60,6 @@ read-line letter n h k =
     ∙ ap (λ (r : Reading). lineRead (readingAfter r 10)) (read-digits letter 19 n (omega arith) k)
     ∙ read-newline letter n
 
--- The number in a step: a delay's length, or the node.
-abbrev pub stepNumber : Step → ℕ
-stepNumber (Delay d) = d .0
-stepNumber (TickOf i) = i .0
-stepNumber (SendOf i) = i .0
-
-pub reads-back : (s : Step) → stepNumber s ≤ 4294967295 → lineOf (stepText s) ≡ Asks s
-unfolding stepText isLetter
-reads-back (Delay d) h = read-line 68 (d .0) refl h
-reads-back (TickOf i) h = read-line 84 (i .0) refl h
-reads-back (SendOf i) h = read-line 83 (i .0) refl h
+pub reads-back : (s : Step) → speltOf s .number ≤ 4294967295 → lineOf (stepText s) ≡ Asks s
+unfolding stepText
+reads-back s h = read-line (speltOf s .letter) (speltOf s .number) (letter-of s) h ∙ ap Asks (step-spelt s)

@@ -4,11 +4,12 @@ use mathlib.Core.Bool.{Bool, cond, not, _&&_}
 use mathlib.Core.List.{List, foldl}
 use lib.Dec.{eqb, leb}
 use Rattle.plan.specs.Refusals.{line-wrong}
+use Rattle.letters.specs.Letters.{stepBy}
 use Rattle.step_lines.specs.declared.Line.{Line}
 use Rattle.step_lines.specs.declared.Line.the-variants.{Asks, Refused}
 use Rattle.step_lines.specs.declared.Reading.{Reading}
 use Rattle.step_lines.specs.declared.Reading.the-variants.{Nothing, Letter, Blank, Number, Whole, Wrong}
-use Rattle.step_lines.specs.StepLine.{isDigit, isLetter, stepBy}
+use Rattle.step_lines.specs.StepLine.{isDigit, lineLetter}
 
 -- A number with one digit more.
 abbrev pub withDigit : (n digit : ℕ) → ℕ
@@ -25,7 +26,7 @@ numberAfter letter n byte =
 
 -- A line read so far, and one byte more.
 unfoldable pub readingAfter : Reading → (byte : ℕ) → Reading
-readingAfter Nothing byte = cond (isLetter byte) (Letter byte) Wrong
+readingAfter Nothing byte = cond (lineLetter byte) (Letter byte) Wrong
 readingAfter (Letter letter) byte = cond (eqb byte 32) (Blank letter) Wrong
 readingAfter (Blank letter) byte = cond (isDigit byte) (Number letter (byte - 48)) Wrong
 readingAfter (Number letter n) byte = numberAfter letter n byte

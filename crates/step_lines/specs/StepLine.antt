@@ -7,8 +7,8 @@ use lib.Dec.{eqb, leb}
 use Rattle.laws.specs.Bytes.{byteAt}
 use Rattle.laws.specs.Below.{allBelow}
 use Rattle.plan.specs.Refusals.{line-wrong}
-use Rattle.run.specs.declared.Step.{Step}
-use Rattle.run.specs.declared.Step.the-variants.{Delay, TickOf, SendOf}
+unfoldable pub use Rattle.letters.specs.Letters.{isLetter}
+pub use Rattle.letters.specs.Letters.{stepBy}
 use Rattle.step_lines.specs.declared.Line.{Line}
 use Rattle.step_lines.specs.declared.Line.the-variants.{Asks, Refused}
 
@@ -25,24 +25,20 @@ spelled line (suc n) = spelled line n * 10 + (byteAt line (2 + n) - 48)
 abbrev pub digitCount : List ℕ → ℕ
 digitCount line = length line - 3
 
--- One of the letters D, T and S.
-unfoldable pub isLetter : ℕ → Bool
-isLetter b = eqb b 68 || eqb b 84 || eqb b 83
+-- A letter that a line may begin with.
+abbrev pub lineLetter : ℕ → Bool
+lineLetter b = isLetter b
 
 -- The line has the shape of a step line: a letter, one blank, a number, a newline at the end.
 -- The number: digits alone, at least one, and no 0 in front of others.
 unfoldable pub lineShaped : List ℕ → Bool
 lineShaped line =
     leb 4 (length line)
-    && isLetter (byteAt line 0)
+    && lineLetter (byteAt line 0)
     && eqb (byteAt line 1) 32
     && eqb (byteAt line (length line - 1)) 10
     && allBelow (digitCount line) (λ k. isDigit (byteAt line (2 + k)))
     && (eqb (digitCount line) 1 || not (eqb (byteAt line 2) 48))
-
--- The step that a letter and a number ask for: D a delay, T a tick, S a send; what is no letter counts as S.
-abbrev pub stepBy : (letter n : ℕ) → Step
-stepBy letter n = cond (eqb letter 68) (Delay (record { 0 = n })) (cond (eqb letter 84) (TickOf (record { 0 = n })) (SendOf (record { 0 = n })))
 
 -- What a line asks for: 19 for another shape, or a number above 4,294,967,295.
 unfoldable pub lineOf : List ℕ → Line

@@ -1,10 +1,10 @@
 // Step lines read: a step, or refusal 19.
+pub use letters::is_letter;
+pub use letters::step_by;
 use plan::LINE_WRONG;
-use plan::Node;
-use plan::Time;
 use run::Step;
 ghost use mathlib.Core.Path.{_≡_};
-ghost use Rattle.step_lines.specs.StepLine.{isDigit, isLetter, stepBy, lineOf};
+ghost use Rattle.step_lines.specs.StepLine.{isDigit, lineOf};
 ghost use Rattle.step_lines.specs.Reading.{numberAfter, readingAfter, lineRead};
 
 // What a line of input asks for.
@@ -26,19 +26,6 @@ pub enum Reading {
     Whole(u8, u32),
     // no step line begins so
     Wrong,
-}
-
-// One of D, T and S.
-pub fn is_letter(byte: u8) -> bool
-    ensures { λ r. ⌜ r ≡ isLetter byte ⌝ }
-{
-    if byte == b'D' {
-        return true;
-    }
-    if byte == b'T' {
-        return true;
-    }
-    byte == b'S'
 }
 
 fn is_digit(byte: u8) -> bool
@@ -97,19 +84,6 @@ pub fn reading_byte(reading: Reading, byte: u8) -> Reading
         Reading::Whole(letter, number) => Reading::Wrong,
         Reading::Wrong => Reading::Wrong,
     }
-}
-
-// The step that a letter and a number ask for.
-pub fn step_by(letter: u8, number: u32) -> Step
-    ensures { λ r. ⌜ r ≡ stepBy letter number ⌝ }
-{
-    if letter == b'D' {
-        return Step::Delay(Time(number));
-    }
-    if letter == b'T' {
-        return Step::TickOf(Node(number));
-    }
-    Step::SendOf(Node(number))
 }
 
 // What a line asks for that ends here.

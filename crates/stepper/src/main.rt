@@ -71,14 +71,18 @@ fn answered(plan: Plan, run: Run, line: Line) -> Stepped
     }
 }
 
-// Room for a line of answer: what waits is written out where the buffer is nearly full.
-fn with_room(out: &[u8], waiting: usize) -> usize {
-    if waiting <= out.len() && 32 <= out.len() - waiting {
-        return waiting;
-    }
+fn flushed(out: &[u8], waiting: usize) {
     if waiting <= out.len() {
         io::write_all(STDOUT_FILENO, &out[..waiting]);
     }
+}
+
+// Room for a line of answer: what waits is written out where the buffer is nearly full.
+fn with_room(out: &[u8], waiting: usize) -> usize {
+    if text::has_room(out.len(), waiting, 32) {
+        return waiting;
+    }
+    flushed(out, waiting);
     0
 }
 
@@ -121,12 +125,6 @@ fn block_done(plan: Plan, desk: Desk, block: &[u8], out: &mut [u8]) -> Desk
         run: run,
         reading: reading,
         waiting: waiting,
-    }
-}
-
-fn flushed(out: &[u8], waiting: usize) {
-    if waiting <= out.len() {
-        io::write_all(STDOUT_FILENO, &out[..waiting]);
     }
 }
 

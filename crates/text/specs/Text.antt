@@ -31,6 +31,10 @@ decimal n = digitsWithin 20 n
 abbrev pub numbered : String → ℕ → List ℕ
 numbered word n = bytes word ++ decimal n
 
+-- A word, a number after it, and the newline that ends the line.
+abbrev pub ended : String → ℕ → List ℕ
+ended word n = numbered word n ++ bytes "\n"
+
 -- What putting a text at a place of a buffer leaves: the text from there on, every other byte as it was, and the place after the text,
 -- at most `room` bytes on.
 pub record Put (room : ℕ) (before : List ℕ) (at : ℕ) (text after : List ℕ) (end : ℕ) : Type 0 where

@@ -1,6 +1,6 @@
 -- Done puts `ok`, 3 of the 19 bytes; Refused puts the line of a refusal, which may have all 19.
 use native.Mathlib.Omega.{arith}
-use Rattle.lines.specs.Out.{answerText}
+use Rattle.lines.specs.Lines.{answerText}
 use Rattle.text.proofs.Puts.{put-more}
 use borrow.Author.Needs.{needs}
 use Rattle.lines.proofs.put_answer.Statement.{statement}

@@ -1,6 +1,6 @@
--- The two nodes, each after its word, and a newline: at most 14, 11 and 1 bytes, so 26.
+-- The two nodes, each after its word, and the newline: at most 14 and 12 bytes, so 26.
 use Rattle.text.proofs.Puts.{_then_}
-use Rattle.lines.specs.Out.{outText}
+use Rattle.lines.specs.Lines.{outText}
 use borrow.Author.Needs.{needs}
 use Rattle.lines.proofs.put_out.Statement.{statement}
 use Rattle.lines.proofs.put_out.Tie as tie
@@ -11,14 +11,11 @@ slice-aggregate-put-numbered c = search needs
 put-numbered-requires : tie.Need-put-numbered-requires
 put-numbered-requires c κs = search needs
 
-slice-aggregate-put-numbered-2 : tie.Need-slice-aggregate-put-numbered-2
-slice-aggregate-put-numbered-2 c = search needs
+slice-aggregate-put-ended : tie.Need-slice-aggregate-put-ended
+slice-aggregate-put-ended c = search needs
 
-put-numbered-requires-2 : tie.Need-put-numbered-requires-2
-put-numbered-requires-2 c κs = search needs
-
-put-byte-requires : tie.Need-put-byte-requires
-put-byte-requires c κs = search needs
+put-ended-requires : tie.Need-put-ended-requires
+put-ended-requires c κs = search needs
 
 same-length : tie.Need-same-length
 same-length c = search needs
@@ -26,10 +23,9 @@ same-length c = search needs
 returns : tie.Need-returns
 unfolding outText
 returns c =
-    let at₃ = c .before .before in
-    let at₂ = at₃ .before .before .before .before in
+    let at₂ = c .before .before in
     let at₁ = at₂ .before .before .before .before .before in
-    at₁ .put-numbered .ensures then at₂ .put-numbered2 .ensures then at₃ .put-byte .ensures
+    at₁ .put-numbered .ensures then at₂ .put-ended .ensures
 
 pub put-out-spec : {M : Type 1} → statement M
 put-out-spec =
@@ -37,8 +33,7 @@ put-out-spec =
     (tie.spec
     slice-aggregate-put-numbered
     put-numbered-requires
-    slice-aggregate-put-numbered-2
-    put-numbered-requires-2
-    put-byte-requires
+    slice-aggregate-put-ended
+    put-ended-requires
     same-length
     returns)

@@ -2,7 +2,7 @@
 use mathlib.Core.Path.{sym, _∙_}
 use native.Mathlib.Omega.{arith}
 use borrow.Author.Tests.{leb-true}
-use Rattle.lines.proofs.Written.{wrote, no-room}
+use Rattle.text.proofs.Written.{wrote, no-room}
 use borrow.Author.Needs.{needs}
 use Rattle.lines.proofs.write_refused.Statement.{statement}
 use Rattle.lines.proofs.write_refused.Tie as tie
