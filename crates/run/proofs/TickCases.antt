@@ -1,20 +1,22 @@
 -- A tick by cases: what each kind of tick makes of a node, and what is known of the node before it. Whoever reasons of what ticks keep
 -- goes by these cases.
 use Prim.Native.Nat.{ℕ, _+_, _*_, _%_, _<_}
-use mathlib.Core.Path.{_≡_}
+use mathlib.Core.Path.{_≡_, refl}
 use mathlib.Core.Logic.{_≢_}
-use mathlib.Core.Bool.{Bool, true, false}
+use mathlib.Core.Bool.{Bool, true, false, not}
 use native.Mathlib.Nat.{lt-of-mul-lt-mul-right}
 use native.Mathlib.Decide.{ℕ-discrete}
 use native.Mathlib.Omega.{arith}
 use Rattle.laws.specs.Ring.{distance}
+use Rattle.laws.proofs.Bools.{clash, cond-by, not-so, true-not-false, false-not-true}
 use Rattle.laws.proofs.Ring.{distance-next}
 use Rattle.plan.specs.declared.Plan.{Plan}
 use Rattle.plan.specs.Tested.{Sound}
 use Rattle.run.specs.declared.Mode.{Mode}
 use Rattle.run.specs.declared.Mode.the-variants.{Waiting, AboutToSend, Sending}
 use Rattle.run.specs.declared.NodeState.{NodeState}
-use Rattle.run.specs.Moves.{clockAfter, slotAfter, modeAfter, nodeTicked}
+use Rattle.run.specs.State.{isAbout, isSending}
+use Rattle.run.specs.Moves.{guardEnds, clockAfter, slotAfter, modeAfter, nodeTicked}
 use Rattle.run.specs.Reckoning.{ticksFrom}
 use Rattle.run.proofs.Outcomes.{clock-heard, clock-on, clock-round, mode-turns, mode-elsewhere, mode-waits, mode-ends, mode-sends, slot-moves, slot-stays, slot-sending}
 
@@ -73,6 +75,16 @@ module _ (P : Plan) (w c s : ℕ) where
 -- which tick it is
 pub tick-of : (P : Plan) (S : Sound P) (w : ℕ) (a : NodeState) → a .clock .0 < P .ticks .0 → TickTo P w (a .clock .0) (a .slot .0) (a .mode) (a .pending) (nodeTicked P w a)
 tick-of P S w a l = case-of P w (a .clock .0) (a .slot .0) S l (a .mode) (a .pending)
+
+-- who neither sends nor is about to does not send after its tick
+pub still-silent : (P : Plan) (w c s : ℕ) (m : Mode) → isAbout m ≡ false → isSending m ≡ false → isSending (modeAfter P w c s m) ≡ false
+unfolding modeAfter
+still-silent P w c s Waiting a e = cond-by (λ (m : Mode). isSending m ≡ false) (guardEnds P w c s) AboutToSend Waiting (λ t. refl) (λ t. refl)
+still-silent P w c s AboutToSend a e = e
+still-silent P w c s Sending a e = clash true refl e
+
+pub sending-before : (P : Plan) (w c s : ℕ) (m : Mode) → isAbout m ≡ false → isSending (modeAfter P w c s m) ≡ true → isSending m ≡ true
+sending-before P w c s m a e = false-not-true (isSending m) (not-so (not (isSending m)) (λ h. clash (isSending (modeAfter P w c s m)) e (still-silent P w c s m a (true-not-false (isSending m) h))))
 
 -- the tick to the next slot counts one more since slot p began, short of a whole frame
 pub counts-round : (P : Plan) (p c s : ℕ) → p < P .frame .0 → s < P .frame .0 → c + 1 ≡ P .ticks .0 → ticksFrom P p c s + 1 < P .frame .0 * P .ticks .0
