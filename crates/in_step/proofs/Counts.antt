@@ -20,7 +20,7 @@ use Rattle.run.specs.declared.Last.the-variants.{At, Nothing}
 use Rattle.run.specs.declared.NodeState.{NodeState}
 use Rattle.run.specs.Reckoning.{ticksFrom, reckoning, belowZero}
 use Rattle.in_step.proofs.Numbers.{live-most, live-least}
-use Rattle.in_step.proofs.Invariant.{phaseOf, ticksOf, Knows, Case, InPhase, Short, Sent, Holds}
+use Rattle.in_step.proofs.Invariant.{phaseOf, ticksOf, Case, InPhase, Short, Sent, Holds}
 use Rattle.in_step.proofs.OneNode.{here-by, knows, ticks-here}
 use Rattle.in_step.proofs.Phases.{due-of, due-one}
 

@@ -4,7 +4,6 @@ use mathlib.Core.Path.{_≡_, refl, sym, _∙_}
 use mathlib.Core.Logic.{_≢_}
 use mathlib.Core.Bool.{false}
 use mathlib.Core.List.{List, [], _∷_}
-use lib.ListN.{length}
 use native.Mathlib.Omega.{arith}
 use Rattle.laws.proofs.Digits.{slots-some}
 use Rattle.laws.proofs.Ring.{end-to-start}

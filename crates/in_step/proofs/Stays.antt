@@ -3,15 +3,14 @@ use Prim.Native.Nat.{ℕ, _<_}
 use mathlib.Core.Path.{_≡_, refl, sym, ap, _∙_}
 use mathlib.Core.Bool.{Bool, true, false, not, _&&_}
 use mathlib.Core.List.{[], _∷_}
-use borrow.Author.Tests.{lt-ltb, le-leb, lt-leb, eq-eqb}
+use borrow.Author.Tests.{lt-ltb, lt-leb, eq-eqb}
 use lib.Dec.{leb}
 use Rattle.laws.specs.Row.{given}
-use Rattle.laws.specs.Below.{anyBelow, allBelow}
-use Rattle.laws.proofs.Bools.{clash, and-both}
-use Rattle.laws.proofs.Belows.{any-never, all-ever}
+use Rattle.laws.specs.Below.{anyBelow}
+use Rattle.laws.proofs.Bools.{clash}
+use Rattle.laws.proofs.Belows.{any-never}
 use Rattle.laws.proofs.Rows.{off-all}
 use Rattle.plan.specs.declared.Plan.{Plan}
-use Rattle.plan.specs.Sending.{own}
 use Rattle.plan.specs.Refusals.{run-outside, node-unknown, reckoning-below-0}
 use Rattle.plan.specs.Tested.{planNumber, Sound}
 use Rattle.plan.proofs.Sound.{sound, own-in-frame}
@@ -23,12 +22,12 @@ use Rattle.run.specs.declared.Last.the-variants.{At, Nothing}
 use Rattle.run.specs.declared.NodeState.{NodeState}
 use Rattle.run.specs.declared.Run.{Run}
 use Rattle.run.specs.declared.Reckoned.the-variants.{Ticks}
-use Rattle.run.specs.State.{node, freshRun, isSending, inRange, nodeInRange, lastInRange, elsewhere, sendsApart, outOfStep}
+use Rattle.run.specs.State.{node, freshRun, isSending, inRange, lastInRange, elsewhere, sendsApart, outOfStep}
 use Rattle.run.specs.Steps.{runAfter}
 use Rattle.run.specs.Reckoning.{timeSince, reckoning, belowZero, reckoningNumber, reckonedTested, reckonedOf}
 use Rattle.run.proofs.Ranges.{nodes-range}
 use Rattle.in_step.specs.InStep.{Reckons, StaysInStep}
-use Rattle.in_step.proofs.Invariant.{Phase, phaseOf, IfSending, Case, InPhase, Sent, Inv}
+use Rattle.in_step.proofs.Invariant.{Phase, IfSending, Case, InPhase, Sent, Inv}
 use Rattle.in_step.proofs.Moment.{all-here}
 use Rattle.in_step.proofs.Phases.{due-of}
 use Rattle.in_step.proofs.Kept.{short-of, inv-fresh, inv-steps}

@@ -1,5 +1,5 @@
 -- The pivot: the round in which the sender of p sends. Until its message the fast node waits with its tick.
-use Prim.Native.Nat.{ℕ, _+_, _*_, _-_, _≤_, _<_}
+use Prim.Native.Nat.{ℕ, _+_, _*_, _-_, _<_}
 use mathlib.Core.Path.{_≡_, refl, sym, ap, _∙_}
 use mathlib.Core.Logic.{_≢_}
 use mathlib.Core.Bool.{Bool, true, false, not, _&&_}
@@ -11,7 +11,6 @@ use Rattle.laws.specs.Ring.{distance}
 use Rattle.laws.proofs.Ring.{distance-self, from-0}
 use Rattle.plan.specs.declared.Plan.{Plan}
 use Rattle.plan.specs.Sending.{own}
-use Rattle.plan.specs.Tested.{Sound}
 use Rattle.plan.proofs.Sound.{own-in-frame}
 use Rattle.run.specs.declared.Mode.the-variants.{Waiting}
 use Rattle.run.specs.declared.NodeState.{NodeState}

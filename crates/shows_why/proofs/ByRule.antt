@@ -11,7 +11,6 @@ use Rattle.laws.proofs.Bools.{not-so}
 use Rattle.laws.proofs.Same.{by-same}
 use Rattle.plan.specs.declared.Plan.{Plan}
 use Rattle.plan.specs.Sending.{own}
-use Rattle.plan.specs.Tested.{Sound}
 use Rattle.plan.proofs.Sound.{own-in-frame}
 use Rattle.run.specs.declared.Run.{Run}
 use Rattle.run.specs.declared.Step.{Step}

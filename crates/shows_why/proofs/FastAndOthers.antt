@@ -1,5 +1,5 @@
 -- A run as the fast node and the others beside it, each with its ticks: what a step makes of both sides.
-use Prim.Native.Nat.{ℕ, suc, _+_, _≤_, _<_}
+use Prim.Native.Nat.{ℕ, suc, _<_}
 use mathlib.Core.Path.{_≡_, sym}
 use mathlib.Core.Logic.{_≢_}
 use native.Mathlib.Omega.{arith}
@@ -12,7 +12,6 @@ use Rattle.run.specs.Moves.{nodeTicked, nodeDelayed, nodeSent, nodeHearing, tic
 use Rattle.run.proofs.Nodes.{node-delayed, node-ticked, node-still, node-hearing}
 use Rattle.run.proofs.EveryNode.{all-delayed, all-sent}
 use Rattle.shown.specs.declared.Parts.{Parts}
-use Rattle.shown.proofs.Roles.{Roles}
 use Rattle.shows_why.proofs.Progress.{Setting, bump, bump-same, bump-other, all-counted}
 
 -- A of the fast node, and B of each other node beside it

@@ -10,7 +10,6 @@ use Rattle.laws.proofs.Same.{at-same}
 use Rattle.laws.proofs.Ring.{Reaches, on, round, next-place}
 use Rattle.plan.specs.declared.Plan.{Plan}
 use Rattle.plan.specs.Sending.{own}
-use Rattle.plan.specs.Tested.{Sound}
 use Rattle.plan.proofs.Sound.{own-in-frame}
 use Rattle.run.specs.declared.Mode.the-variants.{Waiting}
 use Rattle.run.specs.declared.NodeState.{NodeState}

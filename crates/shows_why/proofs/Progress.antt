@@ -16,12 +16,9 @@ use Rattle.laws.proofs.Same.{at-same}
 use Rattle.laws.proofs.Belows.{any-found, any-never}
 use Rattle.laws.proofs.Sums.{sumBelow, sum-same, sum-but-one, sum-within}
 use Rattle.plan.specs.declared.Plan.{Plan}
-use Rattle.plan.specs.declared.Node.{Node}
 use Rattle.plan.specs.declared.Time.{Time}
 use Rattle.plan.specs.Sending.{own}
 use Rattle.plan.specs.Tested.{planNumber, Sound}
-use Rattle.run.specs.declared.Mode.{Mode}
-use Rattle.run.specs.declared.Mode.the-variants.{Waiting, AboutToSend, Sending}
 use Rattle.run.specs.declared.NodeState.{NodeState}
 use Rattle.run.specs.declared.Run.{Run}
 use Rattle.run.specs.declared.Step.{Step}
@@ -42,7 +39,7 @@ use Rattle.shown.specs.declared.Given.{Given}
 use Rattle.shown.specs.declared.Next.the-variants.{Takes, Finished}
 use Rattle.shown.specs.Shown.{dueTime, isDue, pivotNext, nextStep, markAfter, placeAfter, stays, givenBy, givenOf, placeAt, shownSteps}
 use Rattle.shows_why.specs.Ends.{ticksIn}
-use Rattle.shown.proofs.Play.{OnTime, TickMove, DelayMove, Move, on-time, next-move, move-legal}
+use Rattle.shown.proofs.Play.{OnTime, DelayMove, Move, on-time, next-move, move-legal}
 use Rattle.shown.proofs.Roles.{Roles}
 use Rattle.shown.proofs.Giving.{given-stops, given-takes}
 
@@ -106,6 +103,9 @@ pub record Kept (P : Plan) (r : Run) : Type 0 where
 pub record Setting (P : Plan) (parts : Parts) (r : Run) : Type 0 where
   pub roles : Roles P parts
   pub room : P .nodes .0 ≤ length (r .nodes)
+
+pub setting : {P : Plan} {parts : Parts} {r : Run} → Roles P parts → Kept P r → Setting P parts r
+setting R k = record { roles = R; room = k .room }
 
 -- what falls: the ticks that are left of at most B for each node, four times, twice the nodes that are about to send, and one where nobody is due
 module _ (P : Plan) (B : ℕ) where

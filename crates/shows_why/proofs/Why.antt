@@ -1,7 +1,7 @@
 -- Demand 3, second half: the run shown for a failed rule is legal, ends, and ends out of step.
 use Prim.Native.Nat.{ℕ, _+_, _*_, _≤_, _<_}
 use mathlib.Core.Path.{_≡_, refl}
-use mathlib.Core.Bool.{true, false}
+use mathlib.Core.Bool.{false}
 use native.Mathlib.Nat.{mul-le-mul-right}
 use native.Mathlib.Omega.{arith}
 use borrow.Author.Tests.{eq-eqb, ne-eqb}
@@ -9,29 +9,25 @@ use Rattle.laws.proofs.Bools.{clash}
 use Rattle.laws.proofs.Same.{by-same}
 use Rattle.laws.proofs.Ring.{from-0}
 use Rattle.plan.specs.declared.Plan.{Plan}
-use Rattle.plan.specs.Tested.{planNumber, Sound}
+use Rattle.plan.specs.Tested.{Sound}
 use Rattle.plan.proofs.Sound.{sound}
-use Rattle.rules.specs.declared.Rule.{Rule}
-use Rattle.rules.specs.declared.Outcome.the-variants.{Fails}
-use Rattle.rules.specs.Rules.{verdictOf}
 use Rattle.run.specs.declared.Run.{Run}
 use Rattle.run.specs.declared.Step.{Step}
 use Rattle.run.specs.declared.Step.the-variants.{Delay, TickOf, SendOf}
-use Rattle.run.specs.State.{freshRun, inRange}
+use Rattle.run.specs.State.{freshRun}
 use Rattle.run.specs.Moves.{moved, ticked}
 use Rattle.run.proofs.Nodes.{node-fresh, room-fresh}
 use Rattle.run.proofs.Ranges.{fresh-range}
 use Rattle.shown.specs.declared.Mark.{Mark}
 use Rattle.shown.specs.declared.Mark.the-variants.{Before, In, After}
-use Rattle.shown.specs.declared.Place.{Place}
 use Rattle.shown.specs.declared.Parts.{Parts}
 use Rattle.shown.specs.Parts.{partsFor}
-use Rattle.shown.specs.Shown.{freshPlace, markAfter, givenBy, givenFor, givenOf, shownSteps}
-use Rattle.shows_why.specs.Ends.{Ends, ShowsWhy, ticksIn}
+use Rattle.shown.specs.Shown.{freshPlace, markAfter}
+use Rattle.shows_why.specs.Ends.{ShowsWhy}
 use Rattle.shown.proofs.Play.{OnTime, Move}
 use Rattle.shown.proofs.Giving.{given-is}
 use Rattle.shown.proofs.Roles.{Roles, Failure, one, two, three, pivot-in-frame}
-use Rattle.shows_why.proofs.Progress.{bump, bump-same, bump-other, at-bump, counted, Unless, over, on, Kept, Setting, left-most, ends-from}
+use Rattle.shows_why.proofs.Progress.{bump, bump-same, bump-other, at-bump, counted, Unless, over, on, Setting, setting, left-most, ends-from}
 use Rattle.shows_why.proofs.Stands.{waits}
 use Rattle.shows_why.proofs.Rounds.{earlier, pivotCount, done, BeforePivot, round-count, pivot-short, before-pivot-on-time, before-pivot-send, before-pivot-tick, before-pivot-delay}
 use Rattle.shows_why.proofs.AfterPivot.{later}
@@ -162,10 +158,9 @@ unfolding freshPlace
 shows-why P plain rule v =
     let z = cast P (sound P plain) rule v in
     let S = z .roles .sound in
-    let scene : (r : Run) → Kept P r → Setting P (partsFor P rule) r = λ r k. record { roles = z .roles; room = k .room } in
     let r = ends-from P (partsFor P rule) S plain (given-is P rule plain v) (λ q n. ByMark P (partsFor P rule) (z .failure) (q .mark) (q .run) n) (2 * P .frame .0 * P .ticks .0)
-    (λ q n k v. mark-short (scene (q .run) k) (z .failure) n (q .mark) v) (λ q n k v. mark-on-time (scene (q .run) k) (z .failure) n (q .mark) v)
-    (λ q n s k v h. mark-keeps (scene (q .run) k) (z .failure) n (q .mark) v s h) freshPlace (λ k. 0)
+    (λ q n k v. mark-short (setting (z .roles) k) (z .failure) n (q .mark) v) (λ q n k v. mark-on-time (setting (z .roles) k) (z .failure) n (q .mark) v)
+    (λ q n s k v h. mark-keeps (setting (z .roles) k) (z .failure) n (q .mark) v s h) freshPlace (λ k. 0)
     (record { room = omega (arith, room-fresh, S .nodes-high); range = fresh-range P S }) (fresh-before-pivot S (partsFor P rule)) in
     record {
       count = r .count;
