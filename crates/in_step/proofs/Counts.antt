@@ -20,8 +20,8 @@ use Rattle.run.specs.declared.Last.the-variants.{At, Nothing}
 use Rattle.run.specs.declared.NodeState.{NodeState}
 use Rattle.run.specs.Reckoning.{ticksFrom, reckoning, belowZero}
 use Rattle.in_step.proofs.Numbers.{live-most, live-least}
-use Rattle.in_step.proofs.Invariant.{phaseOf, ticksOf, Case, InPhase, Short, Sent, Holds}
-use Rattle.in_step.proofs.OneNode.{here-by, knows, ticks-here}
+use Rattle.in_step.proofs.Invariant.{phaseOf, ticksOf, Case, hears, waits, about, sends, InPhase, Short, Sent, Holds}
+use Rattle.in_step.proofs.OneNode.{knows, ticks-here}
 use Rattle.in_step.proofs.Phases.{due-of, due-one}
 
 pub record Counts (P : Plan) (l : Last) (y : ℕ) (a : NodeState) : Type 0 where
@@ -33,15 +33,10 @@ module _ {P : Plan} (S : Sound P) (A : RulesHold P) {y w : ℕ} {a : NodeState} 
   -- after a message
   counts-after : (q : Slot) → Holds P (phaseOf P (At q)) → InPhase P (phaseOf P (At q)) y w a → Counts P (At q) y a
   unfolding reckoning belowZero
-  counts-after q H g = go (a .pending) refl
+  counts-after q H g = go refl (g .here)
     where
       u : ℕ
       u = ticksFrom P (q .0) (a .clock .0) (a .slot .0)
-
-      heard : (m : Mode) → Case P (phaseOf P (At q)) y w a m true → y ≤ 0 * P .max .0 + a .time .0
-      heard Waiting v = omega (arith, v .time)
-      heard AboutToSend v = absurd v
-      heard Sending v = absurd v
 
       not-early : P .guard .0 ≤ u → (eqb (a .slot .0) (q .0) && true && ltb (a .clock .0) (P .guard .0)) ≡ false
       not-early low =
@@ -49,9 +44,8 @@ module _ {P : Plan} (S : Sound P) (A : RulesHold P) {y w : ℕ} {a : NodeState} 
           (λ e. rw (eq-eqb (a .slot .0) (q .0) e) (le-ltb (a .clock .0) (P .guard .0) (omega (arith, low, ticks-here P (q .0) (a .clock .0) (a .slot .0) (H .start) e))))
           (λ n. rw (ne-eqb (a .slot .0) (q .0) n))
 
-      go : (b : Bool) → a .pending ≡ b → Counts P (At q) y a
-      go true e = record { whole = rw (e, and-false (eqb (a .slot .0) (q .0))); most = rw e (heard (a .mode) (here-by g true e)); least = rw e (λ n. absurd (n refl)) }
-      go false e =
+      counts : a .pending ≡ false → Counts P (At q) y a
+      counts e =
           let l = knows g e in
           let low : P .guard .0 ≤ u = omega (arith, H .lead-low w, l .above) in
           record {
@@ -60,10 +54,16 @@ module _ {P : Plan} (S : Sound P) (A : RulesHold P) {y w : ℕ} {a : NodeState} 
             least = rw e (live-least (u - P .guard .0) refl (H .lead-high w) l);
           }
 
+      go : {m : Mode} {b : Bool} → a .pending ≡ b → Case P (phaseOf P (At q)) y w a m b → Counts P (At q) y a
+      go e (hears v) = record { whole = rw (e, and-false (eqb (a .slot .0) (q .0))); most = rw e (omega (arith, v .time)); least = rw e (λ n. absurd (n refl)) }
+      go e (waits v) = counts e
+      go e (about v) = counts e
+      go e (sends v) = counts e
+
   -- before the first message: the next sending slot is one slot from the end of the frame, so every node counts one slot and its clock
   counts-before : (a .pending ≡ false → Short P (phaseOf P Nothing) (phaseOf P Nothing .D) a) → InPhase P (phaseOf P Nothing) y w a → Counts P Nothing y a
   unfolding reckoning belowZero
-  counts-before short g = go (a .mode) (a .pending) refl (g .here)
+  counts-before short g = go refl (g .here)
     where
       counts : a .pending ≡ false → Counts P Nothing y a
       counts e =
@@ -76,11 +76,11 @@ module _ {P : Plan} (S : Sound P) (A : RulesHold P) {y w : ℕ} {a : NodeState} 
           let e : c ≡ ticksOf P (phaseOf P Nothing) a - k = rw one (omega arith) in
           record { whole = refl; most = live-most c e (l .above) l; least = live-least c e (omega arith) l }
 
-      go : (m : Mode) (b : Bool) → a .pending ≡ b → Case P (phaseOf P Nothing) y w a m b → Counts P Nothing y a
-      go Waiting true e v = absurd (omega (arith, v .message, S .guard-tail))
-      go AboutToSend true e v = absurd v
-      go Sending true e v = absurd v
-      go m false e v = counts e
+      go : {m : Mode} {b : Bool} → a .pending ≡ b → Case P (phaseOf P Nothing) y w a m b → Counts P Nothing y a
+      go e (hears v) = absurd (omega (arith, v .message, S .guard-tail))
+      go e (waits v) = counts e
+      go e (about v) = counts e
+      go e (sends v) = counts e
 
   pub counts-of : (l : Last) → Sent P l → (a .pending ≡ false → Short P (phaseOf P l) (phaseOf P l .D) a) → InPhase P (phaseOf P l) y w a → Counts P l y a
   counts-of (At q) h short g = counts-after q (due-of P S A (At q) h .holds) g

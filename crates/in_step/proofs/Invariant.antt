@@ -95,13 +95,11 @@ module _ (P : Plan) (f : Phase) (y w : ℕ) (a : NodeState) where
     pub high : a .clock .0 + P .tail .0 + 1 ≤ P .ticks .0
 
   -- What holds of it, by its mode and whether a message is pending.
-  abbrev pub Case : Mode → Bool → Type 0
-  Case Waiting true = IfHeard
-  Case Waiting false = IfWaiting
-  Case AboutToSend true = ⊥
-  Case AboutToSend false = IfAbout
-  Case Sending true = ⊥
-  Case Sending false = IfSending
+  pub data Case : Mode → Bool → Type 0 where
+    hears : IfHeard → Case Waiting true
+    waits : IfWaiting → Case Waiting false
+    about : IfAbout → Case AboutToSend false
+    sends : IfSending → Case Sending false
 
   pub record InPhase : Type 0 where
     pub range : NodeWithin P a

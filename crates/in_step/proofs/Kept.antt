@@ -24,7 +24,7 @@ use Rattle.run.proofs.Nodes.{room-fresh, node-fresh, room-moved}
 use Rattle.run.proofs.EveryNode.{all-delayed, all-ticked, all-sent}
 use Rattle.run.proofs.Legal.{DelayLegal, TickLegal, SendLegal, legal-step, done-step}
 use Rattle.in_step.proofs.Numbers.{live-start}
-use Rattle.in_step.proofs.Invariant.{Phase, phaseOf, InPhase, Short, Inv, Holds}
+use Rattle.in_step.proofs.Invariant.{Phase, phaseOf, waits, InPhase, Short, Inv, Holds}
 use Rattle.in_step.proofs.OneNode.{away-none, tick-keeps, delay-keeps}
 use Rattle.in_step.proofs.Moment.{due-turn, all-short, gathered}
 use Rattle.in_step.proofs.Message.{AboutHere, about-here, sender-keeps, hearer-keeps}
@@ -108,7 +108,7 @@ module _ (P : Plan) (S : Sound P) (A : RulesHold P) where
             rw (node-fresh i (omega (arith, S .nodes-high)))
             (record {
               range = record { clock = omega (arith, S .ticks-low); slot = omega (arith, S .frame-low); time = omega arith };
-              here = record { live = live-start refl u refl; before = λ e. omega (arith, S .guard-low) };
+              here = waits (record { live = live-start refl u refl; before = λ e. omega (arith, S .guard-low) });
             });
       }
 

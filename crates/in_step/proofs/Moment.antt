@@ -16,8 +16,8 @@ use Rattle.run.specs.declared.Mode.{Mode}
 use Rattle.run.specs.declared.Mode.the-variants.{Waiting, AboutToSend, Sending}
 use Rattle.run.specs.declared.NodeState.{NodeState}
 use Rattle.in_step.proofs.Numbers.{Live, not-yet, rule1-brings, rule2-keeps, rule3-keeps}
-use Rattle.in_step.proofs.Invariant.{Phase, ticksOf, Knows, IfAbout, IfSending, Case, InPhase, Short, Holds}
-use Rattle.in_step.proofs.OneNode.{here-by, knows, ticks-here, not-next}
+use Rattle.in_step.proofs.Invariant.{Phase, ticksOf, Knows, IfAbout, IfSending, Case, hears, waits, about, sends, InPhase, Short, Holds}
+use Rattle.in_step.proofs.OneNode.{unheard, knows, ticks-here, not-next}
 
 -- Node m's turn, at the distance d: it is the next, or node m is about to send. No more time has gone by than the ticks to it can take.
 pub record Turn (P : Plan) (f : Phase) (y m d : ℕ) : Type 0 where
@@ -39,20 +39,18 @@ module _ {P : Plan} (S : Sound P) {f : Phase} (H : Holds P f) {y : ℕ} where
   about-live v = rw (v .place, v .turn, v .zero) at (v .live)
 
   pub due-turn : (m : ℕ) {a : NodeState} → m < P .nodes .0 → distance (P .frame .0) (f .p) (own P m) ≡ f .D → InPhase P f y (own P m) a → Turn P f y m (f .D)
-  due-turn m {a} h e q = record { below = h; away = e; ahead = H .one; within = omega arith; most = go (a .mode) (a .pending) (q .here) }
+  due-turn m {a} h e q = record { below = h; away = e; ahead = H .one; within = omega arith; most = go (q .here) }
     where
       by : (u : ℕ) → u < f .D * P .ticks .0 + P .guard .0 → y + f .o * P .max .0 ≤ u * P .max .0 + a .time .0 → y + f .o * P .max .0 ≤ (f .D * P .ticks .0 + P .guard .0) * P .max .0
       by u l v = not-yet (P .min .0) (P .max .0) (f .o) u y (a .time .0) (f .D * P .ticks .0) (P .guard .0) l (q .range .time) v
 
-      go : (n : Mode) (b : Bool) → Case P f y (own P m) a n b → y + f .o * P .max .0 ≤ (f .D * P .ticks .0 + P .guard .0) * P .max .0
-      go Waiting true v =
+      go : {n : Mode} {b : Bool} → Case P f y (own P m) a n b → y + f .o * P .max .0 ≤ (f .D * P .ticks .0 + P .guard .0) * P .max .0
+      go (hears v) =
           let some = slots-some (f .D) (P .ticks .0) (H .one) in
           by (f .o) (omega (arith, v .message, S .ticks-low)) (omega (arith, v .time))
-      go Waiting false v = by (ticksOf P f a) (v .before e) (v .live .most)
-      go AboutToSend true v = absurd v
-      go AboutToSend false v = let l = rw e at (about-live v) in omega (arith, l .most)
-      go Sending true v = absurd v
-      go Sending false v = absurd (not-next H (own P m) (v .mine) e)
+      go (waits v) = by (ticksOf P f a) (v .before e) (v .live .most)
+      go (about v) = let l = rw e at (about-live v) in omega (arith, l .most)
+      go (sends v) = absurd (not-next H (own P m) (v .mine) e)
 
   about-turn : (m : ℕ) {a : NodeState} → m < P .nodes .0 → IfAbout P f y (own P m) a → Turn P f y m (distance (P .frame .0) (f .p) (own P m))
   about-turn m h v =
@@ -67,14 +65,14 @@ module _ {P : Plan} (S : Sound P) {f : Phase} (H : Holds P f) {y : ℕ} where
 
   -- and so is the node whose turn is next
   due-short : (w : ℕ) {a : NodeState} → distance (P .frame .0) (f .p) w ≡ f .D → InPhase P f y w a → a .pending ≡ false → Short P f (f .D) a
-  due-short w {a} e q z = go (a .mode) (here-by q false z)
+  due-short w {a} e q z = go (unheard q z)
     where
-      go : (m : Mode) → Case P f y w a m false → Short P f (f .D) a
-      go Waiting v = omega (arith, v .before e, S .guard-tail)
-      go AboutToSend v =
+      go : {m : Mode} → Case P f y w a m false → Short P f (f .D) a
+      go (waits v) = omega (arith, v .before e, S .guard-tail)
+      go (about v) =
           let u : ticksOf P f a ≡ f .D * P .ticks .0 + P .guard .0 = rw (v .place, v .turn, e) in
           omega (arith, S .guard-tail)
-      go Sending v = absurd (not-next H w (v .mine) e)
+      go (sends v) = absurd (not-next H w (v .mine) e)
 
   -- so no tick carries a node's count past slot D
   pub all-short : (i m : ℕ) {a : NodeState} → i < P .nodes .0 → Turn P f y m (f .D) → InPhase P f y (own P i) a → a .pending ≡ false → Short P f (f .D) a
@@ -82,7 +80,7 @@ module _ {P : Plan} (S : Sound P) {f : Phase} (H : Holds P f) {y : ℕ} where
 
   -- while a node a is sending, every node is in its slot
   pub all-here : {w w′ : ℕ} {a b : NodeState} → a .time .0 ≤ P .max .0 → IfSending P f y w a → InPhase P f y w′ b → b .slot .0 ≡ f .p
-  all-here {w} {w′} {a} {b} hx v q = go (b .mode) (b .pending) (q .here)
+  all-here {w} {w′} {a} {b} hx v q = go (q .here)
     where
       counts : Knows P f y w′ b → b .slot .0 ≡ f .p
       counts k =
@@ -92,18 +90,16 @@ module _ {P : Plan} (S : Sound P) {f : Phase} (H : Holds P f) {y : ℕ} where
           let none = same-slot (distance (P .frame .0) (f .p) (b .slot .0)) 0 (P .ticks .0) (b .clock .0) (omega arith) (q .range .clock) (omega arith) in
           distance-same (P .frame .0) (f .p) (b .slot .0) (f .p) (H .start) (q .range .slot) (H .start) (none ∙ sym (distance-self (P .frame .0) (f .p) (H .start)))
 
-      go : (m : Mode) (p : Bool) → Case P f y w′ b m p → b .slot .0 ≡ f .p
-      go Waiting true h = h .place
-      go Waiting false h = counts (h .live)
-      go AboutToSend true h = absurd h
-      go AboutToSend false h = counts (h .live)
-      go Sending true h = absurd h
-      go Sending false h = h .place
+      go : {m : Mode} {p : Bool} → Case P f y w′ b m p → b .slot .0 ≡ f .p
+      go (hears h) = h .place
+      go (waits h) = counts (h .live)
+      go (about h) = counts (h .live)
+      go (sends h) = h .place
 
   -- while node m is about to send, no other node is pending, and all are in its slot, two ticks or more before the end
   pub gathered : (i m : ℕ) {a b : NodeState} → i < P .nodes .0 → m < P .nodes .0 → i ≢ m → own P m < P .frame .0 → IfAbout P f y (own P m) a → InPhase P f y (own P i) b
       → Gathered P (own P m) b
-  gathered i m {a} {b} hi hm n hw v q = go (b .mode) (b .pending) refl (q .here)
+  gathered i m {a} {b} hi hm n hw v q = go refl (q .here)
     where
       d : ℕ
       d = distance (P .frame .0) (f .p) (own P m)
@@ -121,11 +117,11 @@ module _ {P : Plan} (S : Sound P) {f : Phase} (H : Holds P f) {y : ℕ} where
           let short′ : d * P .ticks .0 + b .clock .0 + 1 < d * P .ticks .0 + P .ticks .0 = rw same at short in
           record { quiet = e; place = distance-same (P .frame .0) (f .p) (b .slot .0) (own P m) (H .start) (q .range .slot) hw same; early = omega arith }
 
-      go : (c : Mode) (p : Bool) → b .pending ≡ p → Case P f y (own P i) b c p → Gathered P (own P m) b
-      go Waiting true e h =
+      go : {c : Mode} {p : Bool} → b .pending ≡ p → Case P f y (own P i) b c p → Gathered P (own P m) b
+      go e (hears h) =
           let u = brings (f .o) (omega (arith, h .time)) in
           let some = slots-some d (P .ticks .0) (v .ahead) in
           absurd (omega (arith, h .message, S .guard-tail))
-      go AboutToSend true e h = absurd h
-      go Sending true e h = absurd h
-      go c false e h = counts e
+      go e (waits h) = counts e
+      go e (about h) = counts e
+      go e (sends h) = counts e

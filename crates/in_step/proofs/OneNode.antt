@@ -21,20 +21,19 @@ use Rattle.run.specs.Reckoning.{ticksFrom}
 use Rattle.run.proofs.Ranges.{ticked-within}
 use Rattle.run.proofs.TickCases.{tickedTo, Strays, TickTo, heard, goes-round, turns-about, waits-on, sends-on, ends, strays, tick-of, counts-round}
 use Rattle.in_step.proofs.Numbers.{live-tick, live-heard, live-delay}
-use Rattle.in_step.proofs.Invariant.{Phase, ticksOf, Knows, IfWaiting, IfAbout, Case, InPhase, Short, Holds}
+use Rattle.in_step.proofs.Invariant.{Phase, ticksOf, Knows, IfWaiting, IfAbout, Case, hears, waits, about, sends, InPhase, Short, Holds}
 
--- what holds of a node, where it is known whether a message is pending
-pub here-by : {P : Plan} {f : Phase} {y w : ℕ} {a : NodeState} → InPhase P f y w a → (b : Bool) → a .pending ≡ b → Case P f y w a (a .mode) b
-here-by {P} {f} {y} {w} {a} q b e = subst (λ (b : Bool). Case P f y w a (a .mode) b) e (q .here)
+-- what holds of a node that is not pending; it counts
+pub unheard : {P : Plan} {f : Phase} {y w : ℕ} {a : NodeState} → InPhase P f y w a → a .pending ≡ false → Case P f y w a (a .mode) false
+unheard {P} {f} {y} {w} {a} q e = subst (λ (b : Bool). Case P f y w a (a .mode) b) e (q .here)
 
--- every node that is not pending counts
 pub knows : {P : Plan} {f : Phase} {y w : ℕ} {a : NodeState} → InPhase P f y w a → a .pending ≡ false → Knows P f y w a
-knows {P} {f} {y} {w} {a} q e = go (a .mode) (here-by q false e)
+knows {P} {f} {y} {w} {a} q e = go (unheard q e)
   where
-    go : (m : Mode) → Case P f y w a m false → Knows P f y w a
-    go Waiting v = v .live
-    go AboutToSend v = v .live
-    go Sending v = v .live
+    go : {m : Mode} → Case P f y w a m false → Knows P f y w a
+    go (waits v) = v .live
+    go (about v) = v .live
+    go (sends v) = v .live
 
 -- from p to p there is no slot to count, so a node's ticks there are its clock
 pub away-none : (P : Plan) (p s : ℕ) → p < P .frame .0 → s ≡ p → distance (P .frame .0) p s ≡ 0
@@ -87,46 +86,37 @@ module _ {P : Plan} (S : Sound P) {f : Phase} (H : Holds P f) {y w : ℕ} (hw : 
   pub tick-keeps : (a .pending ≡ false → Short P f (f .D) a) → InPhase P f y w (nodeTicked P w a)
   tick-keeps short = record { range = ticked-within P S w a (q .range); here = go (tick-of P S w a (q .range .clock)) short (q .here) }
     where
-      stray : (m : Mode) (b : Bool) → Case P f y w a m b → Strays P w (a .clock .0) (a .slot .0) m b → ⊥
-      stray Waiting true v h = v .other (sym (h (omega (arith, v .early))) ∙ v .place)
-      stray Waiting false v h = h
-      stray AboutToSend true v h = v
-      stray AboutToSend false v h = omega (arith, v .zero, S .min-low)
-      stray Sending true v h = v
-      stray Sending false v h = omega (arith, v .high, S .tail-low)
+      stray : {m : Mode} {b : Bool} → Case P f y w a m b → Strays P w (a .clock .0) (a .slot .0) m b → ⊥
+      stray (hears v) h = v .other (sym (h (omega (arith, v .early))) ∙ v .place)
+      stray (waits v) h = h
+      stray (about v) h = omega (arith, v .zero, S .min-low)
+      stray (sends v) h = omega (arith, v .high, S .tail-low)
 
       go : {m : Mode} {b : Bool} {n : NodeState} → TickTo P w (a .clock .0) (a .slot .0) m b n → (b ≡ false → Short P f (f .D) a) → Case P f y w a m b → Case P f y w n (n .mode) (n .pending)
-      go (heard d l) short v =
+      go (heard d l) short (hears v) =
           let u = ticks-here P (f .p) (P .guard .0 + 1) (a .slot .0) (H .start) (v .place) in
           let some = slots-some (f .D) (P .ticks .0) (H .one) in
-          record { live = live-heard (v .leads) (u ∙ ap (λ (n : ℕ). n + 1) (sym (v .message))) (v .time) (q .range .time); before = λ e. omega (arith, S .ticks-low) }
-      go (goes-round e) short v =
+          waits (record { live = live-heard (v .leads) (u ∙ ap (λ (n : ℕ). n + 1) (sym (v .message))) (v .time) (q .range .time); before = λ e. omega (arith, S .ticks-low) })
+      go (goes-round e) short (waits v) =
           let z = short refl in
           let gap : (f .D + 1) * P .ticks .0 ≤ P .frame .0 * P .ticks .0 = mul-le-mul-right (P .ticks .0) (omega (arith, H .gap)) in
-          stays-waiting 0 ((a .slot .0 + 1) % P .frame .0) (counts-round P (f .p) (a .clock .0) (a .slot .0) (H .start) (q .range .slot) e (omega arith)) (not-due (λ d. omega (arith, S .guard-tail))) v
-      go (turns-about e t) short v = turns e t (short refl) v
-      go (waits-on l n) short v = stays-waiting (a .clock .0 + 1) (a .slot .0) (omega arith) (not-due n) v
-      go (sends-on l n) short v =
-          record {
-            live = counted (a .clock .0 + 1) (a .slot .0) Sending (omega arith) (v .live);
-            message = v .message;
-            mine = v .mine;
-            place = v .place;
-            low = omega (arith, v .low);
-            high = omega (arith, v .high);
-          }
-      go (ends e) short v = record { live = counted (a .clock .0 + 1) (a .slot .0) Waiting (omega arith) (v .live); before = λ d. absurd (not-next H w (v .mine) d) }
-      go (strays m b h) short v = absurd (stray m b v h)
+          let round = counts-round P (f .p) (a .clock .0) (a .slot .0) (H .start) (q .range .slot) e (omega arith) in
+          waits (stays-waiting 0 ((a .slot .0 + 1) % P .frame .0) round (not-due (λ d. omega (arith, S .guard-tail))) v)
+      go (turns-about e t) short (waits v) = about (turns e t (short refl) v)
+      go (waits-on l n) short (waits v) = waits (stays-waiting (a .clock .0 + 1) (a .slot .0) (omega arith) (not-due n) v)
+      go (sends-on l n) short (sends v) =
+          let live = counted (a .clock .0 + 1) (a .slot .0) Sending (omega arith) (v .live) in
+          sends (record { live = live; message = v .message; mine = v .mine; place = v .place; low = omega (arith, v .low); high = omega (arith, v .high) })
+      go (ends e) short (sends v) =
+          waits (record { live = counted (a .clock .0 + 1) (a .slot .0) Waiting (omega arith) (v .live); before = λ d. absurd (not-next H w (v .mine) d) })
+      go (strays m b h) short v = absurd (stray v h)
 
 -- so does a delay, of a node that is not about to send
 pub delay-keeps : {P : Plan} {f : Phase} {y w : ℕ} {a : NodeState} (d : ℕ) → isAbout (a .mode) ≡ false → a .time .0 + d ≤ P .max .0 → InPhase P f y w a → InPhase P f (y + d) w (nodeDelayed d a)
-delay-keeps {P} {f} {y} {w} {a} d n h q = record { range = record { clock = q .range .clock; slot = q .range .slot; time = h }; here = go (a .mode) (a .pending) n (q .here) }
+delay-keeps {P} {f} {y} {w} {a} d n h q = record { range = record { clock = q .range .clock; slot = q .range .slot; time = h }; here = go n (q .here) }
   where
-    go : (m : Mode) (b : Bool) → isAbout m ≡ false → Case P f y w a m b → Case P f (y + d) w (nodeDelayed d a) m b
-    go Waiting true n v =
-        record { message = v .message; leads = v .leads; place = v .place; early = v .early; time = omega (arith, v .time); other = v .other }
-    go Waiting false n v = record { live = live-delay d (v .live); before = v .before }
-    go AboutToSend true n v = absurd v
-    go AboutToSend false n v = clash true refl n
-    go Sending true n v = absurd v
-    go Sending false n v = record { live = live-delay d (v .live); message = v .message; mine = v .mine; place = v .place; low = v .low; high = v .high }
+    go : {m : Mode} {b : Bool} → isAbout m ≡ false → Case P f y w a m b → Case P f (y + d) w (nodeDelayed d a) m b
+    go n (hears v) = hears (record { message = v .message; leads = v .leads; place = v .place; early = v .early; time = omega (arith, v .time); other = v .other })
+    go n (waits v) = waits (record { live = live-delay d (v .live); before = v .before })
+    go n (about v) = clash true refl n
+    go n (sends v) = sends (record { live = live-delay d (v .live); message = v .message; mine = v .mine; place = v .place; low = v .low; high = v .high })

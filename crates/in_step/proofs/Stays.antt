@@ -27,7 +27,7 @@ use Rattle.run.specs.Steps.{runAfter}
 use Rattle.run.specs.Reckoning.{timeSince, reckoning, belowZero, reckoningNumber, reckonedTested, reckonedOf}
 use Rattle.run.proofs.Ranges.{nodes-range}
 use Rattle.in_step.specs.InStep.{Reckons, StaysInStep}
-use Rattle.in_step.proofs.Invariant.{Phase, IfSending, Case, InPhase, Sent, Inv}
+use Rattle.in_step.proofs.Invariant.{Phase, IfSending, Case, hears, waits, about, sends, InPhase, Sent, Inv}
 use Rattle.in_step.proofs.Moment.{all-here}
 use Rattle.in_step.proofs.Phases.{due-of}
 use Rattle.in_step.proofs.Kept.{short-of, inv-fresh, inv-steps}
@@ -35,13 +35,13 @@ use Rattle.in_step.proofs.Counts.{Counts, counts-of}
 
 -- a node that is sending, from its mode
 sends-here : {P : Plan} {f : Phase} {y w : ℕ} {a : NodeState} → isSending (a .mode) ≡ true → InPhase P f y w a → IfSending P f y w a
-sends-here {P} {f} {y} {w} {a} e q = go (a .mode) (a .pending) e (q .here)
+sends-here {P} {f} {y} {w} {a} e q = go e (q .here)
   where
-    go : (m : Mode) (b : Bool) → isSending m ≡ true → Case P f y w a m b → IfSending P f y w a
-    go Waiting b e v = clash false e refl
-    go AboutToSend b e v = clash false e refl
-    go Sending true e v = absurd v
-    go Sending false e v = v
+    go : {m : Mode} {b : Bool} → isSending m ≡ true → Case P f y w a m b → IfSending P f y w a
+    go e (hears v) = clash false e refl
+    go e (waits v) = clash false e refl
+    go e (about v) = clash false e refl
+    go e (sends v) = v
 
 module _ (P : Plan) (S : Sound P) (A : RulesHold P) (r : Run) (y : ℕ) (v : Inv P r y) where
   -- while a node sends every node is in its slot

@@ -6,7 +6,7 @@ use native.Mathlib.Omega.{arith}
 use borrow.Author.Tests.{ltb-true, ltb-false, eqb-true, eqb-false, le-ltb, eq-eqb}
 use lib.Dec.{eqb, ltb}
 use Rattle.laws.specs.Below.{firstBelow}
-use Rattle.laws.proofs.Bools.{and-true-left, and-true-right, cond-by}
+use Rattle.laws.proofs.Bools.{clash, and-true-left, and-true-right, Either, first-holds, second-holds, cond-by}
 use Rattle.laws.proofs.Belows.{any-not, any-never, least-under, least-reached, first-is, first-is-none}
 use Rattle.plan.specs.declared.Plan.{Plan}
 use Rattle.plan.specs.Tested.{Sound}
@@ -49,6 +49,17 @@ module _ (P : Plan) (parts : Parts) (q : Place) where
     goes-first : goesFirst P parts (q .run) (q .mark) i ≡ true → Turn i
     goes-second : NoneFirst → goesSecond parts (q .mark) i ≡ true → Turn i
     goes-third : NoneFirst → NoneSecond → Turn i
+
+  -- where one who is due goes first, or next, so does the node that ticks
+  pub turn-first : {i : ℕ} → Turn i → (j : ℕ) → j < P .nodes .0 → Due j → goesFirst P parts (q .run) (q .mark) j ≡ true → goesFirst P parts (q .run) (q .mark) i ≡ true
+  turn-first (goes-first h) j l d e = h
+  turn-first (goes-second n h) j l d e = clash (goesFirst P parts (q .run) (q .mark) j) e (n j l d)
+  turn-first (goes-third n m) j l d e = clash (goesFirst P parts (q .run) (q .mark) j) e (n j l d)
+
+  pub turn-second : {i : ℕ} → Turn i → (j : ℕ) → j < P .nodes .0 → Due j → goesSecond parts (q .mark) j ≡ true → Either (goesFirst P parts (q .run) (q .mark) i) (goesSecond parts (q .mark) i)
+  turn-second (goes-first h) j l d e = first-holds h
+  turn-second (goes-second n h) j l d e = second-holds h
+  turn-second (goes-third n m) j l d e = clash (goesSecond parts (q .mark) j) e (m j l d)
 
   pub record SendMove (i : ℕ) : Type 0 where
     pub below : i < P .nodes .0

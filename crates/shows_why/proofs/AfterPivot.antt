@@ -22,7 +22,7 @@ use Rattle.shown.specs.declared.Mark.the-variants.{After}
 use Rattle.shown.specs.declared.Place.{Place}
 use Rattle.shown.specs.declared.Parts.{Parts}
 use Rattle.shown.specs.Shown.{dueTime, goesFirst}
-use Rattle.shown.proofs.Play.{OnTime, TickMove, DelayMove, Turn, goes-first, goes-second, goes-third}
+use Rattle.shown.proofs.Play.{OnTime, TickMove, DelayMove, turn-first}
 use Rattle.shows_why.proofs.Progress.{Setting, bump}
 use Rattle.shows_why.proofs.Stands.{busy-at-own, Stands, tick-stands, about-count, delay-stands}
 use Rattle.shows_why.proofs.FastAndOthers.{FastAndOthers, both-delayed, fast-ticked, other-ticked}
@@ -44,15 +44,7 @@ module _ (P : Plan) (parts : Parts) where
 
   pub fast-goes-first : (r : Run) (i : ℕ) → parts .fast .0 < P .nodes .0 → i ≢ parts .fast .0 → TickMove P parts (later r) i → node r (parts .fast .0) .time .0 ≢ P .min .0
   unfolding goesFirst
-  fast-goes-first r i l n m e = absurd (go (m .turn))
-    where
-      not-first : ((j : ℕ) → j < P .nodes .0 → node r j .time .0 ≡ dueTime P parts After j → goesFirst P parts r After j ≡ false) → ⊥
-      not-first h = clash (eqb (parts .fast .0) (parts .fast .0)) (eq-eqb (parts .fast .0) (parts .fast .0) refl) (h (parts .fast .0) l (e ∙ sym due-fast))
-
-      go : Turn P parts (later r) i → ⊥
-      go (goes-first h) = n (eqb-true i (parts .fast .0) h)
-      go (goes-second h k) = not-first h
-      go (goes-third h k) = not-first h
+  fast-goes-first r i l n m e = n (eqb-true i (parts .fast .0) (turn-first P parts (later r) (m .turn) (parts .fast .0) l (e ∙ sym due-fast) (eq-eqb (parts .fast .0) (parts .fast .0) refl)))
 
 -- the fast node, which has ticked j times since the pivot
 pub record Fast (P : Plan) (parts : Parts) (j : ℕ) (a : NodeState) : Type 0 where

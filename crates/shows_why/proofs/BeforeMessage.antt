@@ -6,7 +6,7 @@ use mathlib.Core.Bool.{Bool, true, false, not, _&&_}
 use native.Mathlib.Omega.{arith}
 use borrow.Author.Tests.{eqb-true, eq-eqb, ne-eqb, lt-ltb}
 use lib.Dec.{eqb, ltb}
-use Rattle.laws.proofs.Bools.{clash, and-true-left, and-true-right, or-true-right, true-not-false, not-so}
+use Rattle.laws.proofs.Bools.{clash, and-true-left, and-true-right, or-true-right, Either, first-holds, second-holds, not-so}
 use Rattle.laws.specs.Ring.{distance}
 use Rattle.laws.proofs.Ring.{distance-self, from-0}
 use Rattle.plan.specs.declared.Plan.{Plan}
@@ -22,7 +22,7 @@ use Rattle.run.proofs.EveryNode.{all-ticked}
 use Rattle.run.proofs.TickCases.{still-silent}
 use Rattle.shown.specs.declared.Parts.{Parts}
 use Rattle.shown.specs.Shown.{turns, goesFirst, goesSecond, pivotNext}
-use Rattle.shown.proofs.Play.{OnTime, SendMove, TickMove, DelayMove, NoneFirst, Turn, goes-first, goes-second, goes-third}
+use Rattle.shown.proofs.Play.{OnTime, SendMove, TickMove, DelayMove, turn-first, turn-second}
 use Rattle.shows_why.proofs.Progress.{Setting, bump, bump-other, at-bump}
 use Rattle.shows_why.proofs.Stands.{Stands, tick-stands, busy-at-own, about-at, waits-away, waits-early, send-stands, hear-stands}
 use Rattle.shown.proofs.Roles.{Roles, pivot-in-frame, sender-not-fast}
@@ -95,34 +95,21 @@ module _ {P : Plan} {parts : Parts} {r : Run} {i : ℕ} (h : TickMove P parts (w
   -- the fast node ticks when no other is due
   fast-goes-last : i ≡ parts .fast .0 → (j : ℕ) → j < P .nodes .0 → j ≢ parts .fast .0 → node r j .time .0 ≢ P .min .0
   unfolding goesFirst goesSecond
-  fast-goes-last e j l n d = absurd (go (h .turn))
+  fast-goes-last e j l n d = absurd (go (turn-second P parts (within r) (h .turn) j l (d ∙ sym (due-in P parts j)) (ap not (ne-eqb j (parts .fast .0) n))))
     where
-      is-fast : ℕ → Bool
-      is-fast k = eqb k (parts .fast .0)
+      not-fast : Bool
+      not-fast = not (eqb i (parts .fast .0))
 
-      me : is-fast i ≡ true
-      me = eq-eqb i (parts .fast .0) e
-
-      go : Turn P parts (within r) i → ⊥
-      go (goes-first t) = clash (is-fast i) me (true-not-false (is-fast i) (and-true-left (not (is-fast i)) (not (eqb i (parts .sender .0))) t))
-      go (goes-second k t) = clash (is-fast i) me (true-not-false (is-fast i) t)
-      go (goes-third k t) = clash (not (is-fast j)) (ap not (ne-eqb j (parts .fast .0) n)) (t j l (d ∙ sym (due-in P parts j)))
+      go : Either (not-fast && not (eqb i (parts .sender .0))) not-fast → ⊥
+      go (first-holds t) = clash not-fast (and-true-left not-fast (not (eqb i (parts .sender .0))) t) (ap not (eq-eqb i (parts .fast .0) e))
+      go (second-holds t) = clash not-fast t (ap not (eq-eqb i (parts .fast .0) e))
 
   -- the sender of p ticks when none but the fast node is due
   sender-goes-second : i ≡ parts .sender .0 → (j : ℕ) → j < P .nodes .0 → j ≢ parts .fast .0 → j ≢ parts .sender .0 → node r j .time .0 ≢ P .min .0
   unfolding goesFirst
-  sender-goes-second e j l n s d = absurd (go (h .turn))
-    where
-      is-sender : ℕ → Bool
-      is-sender k = eqb k (parts .sender .0)
-
-      none-first : NoneFirst P parts (within r) → ⊥
-      none-first k = clash (not (eqb j (parts .fast .0)) && not (is-sender j)) (rw (ne-eqb j (parts .fast .0) n, ne-eqb j (parts .sender .0) s)) (k j l (d ∙ sym (due-in P parts j)))
-
-      go : Turn P parts (within r) i → ⊥
-      go (goes-first t) = clash (is-sender i) (eq-eqb i (parts .sender .0) e) (true-not-false (is-sender i) (and-true-right (not (eqb i (parts .fast .0))) (not (is-sender i)) t))
-      go (goes-second k t) = none-first k
-      go (goes-third k t) = none-first k
+  sender-goes-second e j l n s d =
+      let first = turn-first P parts (within r) (h .turn) j l (d ∙ sym (due-in P parts j)) (rw (ne-eqb j (parts .fast .0) n, ne-eqb j (parts .sender .0) s)) in
+      clash (not (eqb i (parts .sender .0))) (and-true-right (not (eqb i (parts .fast .0))) (not (eqb i (parts .sender .0))) first) (ap not (eq-eqb i (parts .sender .0) e))
 
 -- before the message
 

@@ -6,7 +6,7 @@ use mathlib.Core.Bool.{true, false, not}
 use native.Mathlib.Omega.{arith}
 use lib.ListN.{length}
 use Rattle.laws.specs.Ring.{distance}
-use Rattle.laws.proofs.Bools.{clash, false-not-true}
+use Rattle.laws.proofs.Bools.{clash, false-not-true, not-so}
 use Rattle.laws.proofs.Same.{by-same}
 use Rattle.laws.proofs.Ring.{distance-same, from-0}
 use Rattle.laws.proofs.Digits.{same-digits}
@@ -24,7 +24,7 @@ use Rattle.shown.specs.declared.Mark.the-variants.{Before}
 use Rattle.shown.specs.declared.Place.{Place}
 use Rattle.shown.specs.declared.Parts.{Parts}
 use Rattle.shown.specs.Shown.{dueTime, turns, goesFirst}
-use Rattle.shown.proofs.Play.{OnTime, Quiet, SendMove, TickMove, DelayMove, Turn, goes-first, goes-second, goes-third}
+use Rattle.shown.proofs.Play.{OnTime, Quiet, SendMove, TickMove, DelayMove, turn-first}
 use Rattle.shows_why.proofs.Progress.{Setting, bump, at-bump, all-counted}
 use Rattle.shows_why.proofs.Stands.{Stands, tick-stands, at-place, about-count, delay-stands, send-stands, hear-stands}
 use Rattle.shown.proofs.Roles.{slot-fits, Roles, pivot-in-frame}
@@ -127,12 +127,8 @@ due-before P parts i = refl
 -- if the node that ticks is one that its tick makes about to send, so is every other that is due
 pub turns-last : (P : Plan) (parts : Parts) (r : Run) (i j : ℕ) → TickMove P parts (earlier r) i → turns P r i ≡ true → j < P .nodes .0 → node r j .time .0 ≡ P .min .0 → turns P r j ≡ true
 unfolding goesFirst
-turns-last P parts r i j h e l d = go (h .turn)
-  where
-    go : Turn P parts (earlier r) i → turns P r j ≡ true
-    go (goes-first k) = clash (not (turns P r i)) k (ap not e)
-    go (goes-second k s) = false-not-true (turns P r j) (k j l (d ∙ sym (due-before P parts j)))
-    go (goes-third k s) = false-not-true (turns P r j) (k j l (d ∙ sym (due-before P parts j)))
+turns-last P parts r i j h e l d =
+    false-not-true (turns P r j) (not-so (not (turns P r j)) (λ n. clash (not (turns P r i)) (turn-first P parts (earlier r) (h .turn) j l (d ∙ sym (due-before P parts j)) n) (ap not e)))
 
 pub pivot-short : {P : Plan} {parts : Parts} → Roles P parts → pivotCount P parts < P .frame .0 * P .ticks .0
 pivot-short {parts = parts} R = slot-fits (R .sound) (parts .p .0) (pivot-in-frame R)
