@@ -14,7 +14,6 @@ use Rattle.plan.specs.declared.Slot.{Slot}
 use Rattle.plan.specs.Tested.{Sound}
 use Rattle.rules.proofs.Distances.{RulesHold}
 use Rattle.run.specs.declared.Mode.{Mode}
-use Rattle.run.specs.declared.Mode.the-variants.{Waiting, AboutToSend, Sending}
 use Rattle.run.specs.declared.Last.{Last}
 use Rattle.run.specs.declared.Last.the-variants.{At, Nothing}
 use Rattle.run.specs.declared.NodeState.{NodeState}

@@ -3,7 +3,7 @@
 use Prim.Native.Nat.{ℕ, _+_, _*_, _≤_, _<_}
 use mathlib.Core.Path.{_≡_, refl, sym, _∙_}
 use mathlib.Core.Logic.{_≢_}
-use mathlib.Core.Bool.{Bool, true, false}
+use mathlib.Core.Bool.{Bool, false}
 use native.Mathlib.Omega.{arith}
 use Rattle.laws.specs.Ring.{distance}
 use Rattle.laws.proofs.Same.{by-same}
@@ -13,7 +13,6 @@ use Rattle.plan.specs.declared.Plan.{Plan}
 use Rattle.plan.specs.Sending.{own}
 use Rattle.plan.specs.Tested.{Sound}
 use Rattle.run.specs.declared.Mode.{Mode}
-use Rattle.run.specs.declared.Mode.the-variants.{Waiting, AboutToSend, Sending}
 use Rattle.run.specs.declared.NodeState.{NodeState}
 use Rattle.in_step.proofs.Numbers.{Live, not-yet, rule1-brings, rule2-keeps, rule3-keeps}
 use Rattle.in_step.proofs.Invariant.{Phase, ticksOf, Knows, IfAbout, IfSending, Case, hears, waits, about, sends, InPhase, Short, Holds}

@@ -16,7 +16,6 @@ use Rattle.plan.specs.Tested.{planNumber, Sound}
 use Rattle.plan.proofs.Sound.{sound, own-in-frame}
 use Rattle.rules.proofs.Distances.{RulesHold, rules-hold}
 use Rattle.run.specs.declared.Mode.{Mode}
-use Rattle.run.specs.declared.Mode.the-variants.{Waiting, AboutToSend, Sending}
 use Rattle.run.specs.declared.Last.{Last}
 use Rattle.run.specs.declared.Last.the-variants.{At, Nothing}
 use Rattle.run.specs.declared.NodeState.{NodeState}

@@ -1,7 +1,7 @@
 -- Which step of the shown run is next, and why: where no time is past due, it is legal.
 use Prim.Native.Nat.{ℕ, _+_, _-_, _≤_, _<_}
 use mathlib.Core.Path.{_≡_}
-use mathlib.Core.Bool.{Bool, true, false, _&&_}
+use mathlib.Core.Bool.{Bool, true, false, cond, _&&_}
 use native.Mathlib.Omega.{arith}
 use borrow.Author.Tests.{ltb-true, ltb-false, eqb-true, eqb-false, le-ltb, eq-eqb}
 use lib.Dec.{eqb, ltb}
@@ -9,6 +9,7 @@ use Rattle.laws.specs.Below.{firstBelow}
 use Rattle.laws.proofs.Bools.{clash, and-true-left, and-true-right, Either, first-holds, second-holds, cond-by}
 use Rattle.laws.proofs.Belows.{any-not, any-never, least-under, least-reached, first-is, first-is-none}
 use Rattle.plan.specs.declared.Plan.{Plan}
+use Rattle.plan.specs.declared.Node.{Node}
 use Rattle.plan.specs.Tested.{Sound}
 use Rattle.run.specs.declared.Step.{Step}
 use Rattle.run.specs.declared.Step.the-variants.{Delay, TickOf, SendOf}
@@ -19,7 +20,7 @@ use Rattle.shown.specs.declared.Mark.{Mark}
 use Rattle.shown.specs.declared.Mark.the-variants.{Before, In, After}
 use Rattle.shown.specs.declared.Place.{Place}
 use Rattle.shown.specs.declared.Parts.{Parts}
-use Rattle.shown.specs.Shown.{dueTime, isDue, pastDue, goesFirst, goesSecond, lowestAbout, lowestFirst, lowestSecond, lowestDue, timeToDue, nextStep}
+use Rattle.shown.specs.Shown.{dueTime, isDue, pastDue, goesFirst, goesSecond, timeToDue, nextStep}
 
 -- nobody is about to send
 abbrev pub Quiet : Plan → Place → Type 0
@@ -112,27 +113,24 @@ module _ (P : Plan) (parts : Parts) (S : Sound P) (q : Place) where
       ltb-false (dueTime P parts (q .mark) i) (node (q .run) i .time .0)
       (any-not (P .nodes .0) (λ i. ltb (dueTime P parts (q .mark) i) (node (q .run) i .time .0)) h i l)
 
+  -- the lowest node that passes a test takes its step, or none passes
+  by-lowest : (test : ℕ → Bool) (take : Node → Step) (rest : Step) → ((i : ℕ) → i < P .nodes .0 → test i ≡ true → Move P parts q (take (record { 0 = i })))
+      → (((j : ℕ) → j < P .nodes .0 → test j ≡ false) → Move P parts q rest) → Move P parts q (cond (ltb (firstBelow (P .nodes .0) test) (P .nodes .0)) (take (record { 0 = firstBelow (P .nodes .0) test })) rest)
+  by-lowest test take rest f g =
+      let i = firstBelow (P .nodes .0) test in
+      cond-by (Move P parts q) (ltb i (P .nodes .0)) (take (record { 0 = i })) rest (λ e. f i (ltb-true i (P .nodes .0) e) (first-is (P .nodes .0) test e)) (λ e. g (first-is-none (P .nodes .0) test e))
+
   -- which step is next, and why
   pub next-move : OnTime P parts q → Move P parts q (nextStep P parts q)
   unfolding nextStep
   next-move t =
-      cond-by (Move P parts q) (ltb (lowestAbout P q) (P .nodes .0)) _ _
-      (λ e. record { below = ltb-true (lowestAbout P q) (P .nodes .0) e; about = first-is (P .nodes .0) about e })
-      (λ e.
-      let a : Quiet P q = first-is-none (P .nodes .0) about e in
-      cond-by (Move P parts q) (ltb (lowestFirst P parts q) (P .nodes .0)) _ _ (λ e. tick first (λ i h. goes-first h) a e)
-      (λ e.
-      let n = none-of first (first-is-none (P .nodes .0) (λ i. isDue P parts q i && first i) e) in
-      cond-by (Move P parts q) (ltb (lowestSecond P parts q) (P .nodes .0)) _ _ (λ e. tick second (λ i h. goes-second n h) a e)
-      (λ e.
-      let m = none-of second (first-is-none (P .nodes .0) (λ i. isDue P parts q i && second i) e) in
-      cond-by (Move P parts q) (ltb (lowestDue P parts q) (P .nodes .0)) _ _
-      (λ e. record { below = ltb-true (lowestDue P parts q) (P .nodes .0) e; quiet = a; due = due-is P parts q (lowestDue P parts q) (first-is (P .nodes .0) (isDue P parts q) e); turn = goes-third n m })
-      (λ e. wait a (first-is-none (P .nodes .0) (isDue P parts q) e)))))
+      by-lowest (λ i. isAbout (node (q .run) i .mode)) SendOf _ (λ i l e. record { below = l; about = e }) (λ a.
+      by-lowest (λ i. isDue P parts q i && first i) TickOf _ (tick a first (λ i h. goes-first h)) (λ no-first.
+      let n = none-of first no-first in
+      by-lowest (λ i. isDue P parts q i && second i) TickOf _ (tick a second (λ i h. goes-second n h)) (λ no-second.
+      let m = none-of second no-second in
+      by-lowest (isDue P parts q) TickOf _ (λ i l e. record { below = l; quiet = a; due = due-is P parts q i e; turn = goes-third n m }) (wait a))))
     where
-      about : ℕ → Bool
-      about i = isAbout (node (q .run) i .mode)
-
       first : ℕ → Bool
       first i = goesFirst P parts (q .run) (q .mark) i
 
@@ -142,12 +140,8 @@ module _ (P : Plan) (parts : Parts) (S : Sound P) (q : Place) where
       none-of : (f : ℕ → Bool) → ((j : ℕ) → j < P .nodes .0 → (isDue P parts q j && f j) ≡ false) → (j : ℕ) → j < P .nodes .0 → Due P parts q j → f j ≡ false
       none-of f h j l d = rw (eq-eqb (node (q .run) j .time .0) (dueTime P parts (q .mark) j) d) at (h j l)
 
-      tick : (f : ℕ → Bool) → ((i : ℕ) → f i ≡ true → Turn P parts q i) → Quiet P q → ltb (firstBelow (P .nodes .0) (λ i. isDue P parts q i && f i)) (P .nodes .0) ≡ true
-          → TickMove P parts q (firstBelow (P .nodes .0) (λ i. isDue P parts q i && f i))
-      tick f turn a e =
-          let i = firstBelow (P .nodes .0) (λ i. isDue P parts q i && f i) in
-          let both = first-is (P .nodes .0) (λ i. isDue P parts q i && f i) e in
-          record { below = ltb-true i (P .nodes .0) e; quiet = a; due = due-is P parts q i (and-true-left (isDue P parts q i) (f i) both); turn = turn i (and-true-right (isDue P parts q i) (f i) both) }
+      tick : Quiet P q → (f : ℕ → Bool) → ((i : ℕ) → f i ≡ true → Turn P parts q i) → (i : ℕ) → i < P .nodes .0 → (isDue P parts q i && f i) ≡ true → TickMove P parts q i
+      tick a f turn i l e = record { below = l; quiet = a; due = due-is P parts q i (and-true-left (isDue P parts q i) (f i) e); turn = turn i (and-true-right (isDue P parts q i) (f i) e) }
 
       wait : Quiet P q → ((j : ℕ) → j < P .nodes .0 → isDue P parts q j ≡ false) → DelayMove P parts q (timeToDue P parts q)
       wait a none-due =

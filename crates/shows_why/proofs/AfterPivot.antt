@@ -7,7 +7,6 @@ use native.Mathlib.Nat.{mul-le-mul-right, mul-le-mul-left}
 use native.Mathlib.Decide.{decLe}
 use native.Mathlib.Omega.{arith}
 use borrow.Author.Tests.{eq-eqb, ne-eqb, eqb-true}
-use lib.Dec.{eqb}
 use Rattle.laws.proofs.Bools.{clash}
 use Rattle.laws.proofs.Same.{by-same, at-same}
 use Rattle.plan.specs.declared.Plan.{Plan}
