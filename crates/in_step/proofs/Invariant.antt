@@ -20,6 +20,7 @@ use Rattle.run.specs.declared.NodeState.{NodeState}
 use Rattle.run.specs.declared.Run.{Run}
 use Rattle.run.specs.State.{node}
 use Rattle.run.specs.Reckoning.{ticksFrom}
+use Rattle.run.proofs.Ranges.{NodeWithin}
 use Rattle.in_step.proofs.Numbers.{Live}
 
 -- The numbers of a phase.
@@ -53,74 +54,56 @@ phaseOf P Nothing =
       z = 2;
     }
 
--- A node in phase f, y after it began: it sends in slot w, its clock is c, its slot s and its time since tick x.
-module _ (P : Plan) (f : Phase) (y w c s x : ℕ) where
-  -- The node's ticks since the beginning of slot p, and the bounds that they give.
-  abbrev pub Knows : Type 0
-  Knows = Live (P .min .0) (P .max .0) (f .o) (f .lead w) (ticksFrom P (f .p) c s) y x
-
-  -- Waiting, a message pending: the phase began with it, and the node is still in its slot.
-  pub record Heard : Type 0 where
-    pub message : f .o ≡ P .guard .0
-    pub leads : f .lead w ≡ f .o + 1
-    pub place : s ≡ f .p
-    pub early : c + 2 ≤ P .ticks .0
-    pub time : y ≤ x
-    pub other : w ≢ f .p
-
-  -- Waiting, nothing pending: if its turn is next it has not come.
-  pub record Waits : Type 0 where
-    pub live : Knows
-    pub before : distance (P .frame .0) (f .p) w ≡ f .D → ticksFrom P (f .p) c s < f .D * P .ticks .0 + P .guard .0
-
-  pub record Abouts : Type 0 where
-    pub live : Knows
-    pub ahead : 1 ≤ distance (P .frame .0) (f .p) w
-    pub within : distance (P .frame .0) (f .p) w ≤ f .D
-    pub place : s ≡ w
-    pub turn : c ≡ P .guard .0
-    pub zero : x ≡ 0
-
-  pub record Sends : Type 0 where
-    pub live : Knows
-    pub message : f .o ≡ P .guard .0
-    pub mine : w ≡ f .p
-    pub place : s ≡ f .p
-    pub low : P .guard .0 ≤ c
-    pub high : c + P .tail .0 + 1 ≤ P .ticks .0
-
-  -- What holds of it, by its mode and whether a message is pending.
-  abbrev pub Case : Mode → Bool → Type 0
-  Case Waiting true = Heard
-  Case Waiting false = Waits
-  Case AboutToSend true = ⊥
-  Case AboutToSend false = Abouts
-  Case Sending true = ⊥
-  Case Sending false = Sends
-
--- The same of a node's state a.
-module _ (P : Plan) (f : Phase) (y w : ℕ) (a : NodeState) where
-  abbrev pub KnowsOf : Type 0
-  KnowsOf = Knows P f y w (a .clock .0) (a .slot .0) (a .time .0)
-
-  abbrev pub AboutsOf : Type 0
-  AboutsOf = Abouts P f y w (a .clock .0) (a .slot .0) (a .time .0)
-
-  abbrev pub SendsOf : Type 0
-  SendsOf = Sends P f y w (a .clock .0) (a .slot .0) (a .time .0)
-
-  abbrev pub CaseOf : Mode → Bool → Type 0
-  CaseOf = Case P f y w (a .clock .0) (a .slot .0) (a .time .0)
-
-  pub record Good : Type 0 where
-    pub clock-low : a .clock .0 < P .ticks .0
-    pub slot-low : a .slot .0 < P .frame .0
-    pub time-low : a .time .0 ≤ P .max .0
-    pub here : CaseOf (a .mode) (a .pending)
-
 -- A node's ticks since the beginning of slot p.
 abbrev pub ticksOf : Plan → Phase → NodeState → ℕ
 ticksOf P f a = ticksFrom P (f .p) (a .clock .0) (a .slot .0)
+
+-- A node a in phase f, y after it began, that sends in slot w.
+module _ (P : Plan) (f : Phase) (y w : ℕ) (a : NodeState) where
+  -- The node's ticks since the beginning of slot p, and the bounds that they give.
+  abbrev pub Knows : Type 0
+  Knows = Live (P .min .0) (P .max .0) (f .o) (f .lead w) (ticksOf P f a) y (a .time .0)
+
+  -- Waiting, a message pending: the phase began with it, and the node is still in its slot.
+  pub record IfHeard : Type 0 where
+    pub message : f .o ≡ P .guard .0
+    pub leads : f .lead w ≡ f .o + 1
+    pub place : a .slot .0 ≡ f .p
+    pub early : a .clock .0 + 2 ≤ P .ticks .0
+    pub time : y ≤ a .time .0
+    pub other : w ≢ f .p
+
+  -- Waiting, nothing pending: if its turn is next it has not come.
+  pub record IfWaiting : Type 0 where
+    pub live : Knows
+    pub before : distance (P .frame .0) (f .p) w ≡ f .D → ticksOf P f a < f .D * P .ticks .0 + P .guard .0
+
+  pub record IfAbout : Type 0 where
+    pub live : Knows
+    pub ahead : 1 ≤ distance (P .frame .0) (f .p) w
+    pub within : distance (P .frame .0) (f .p) w ≤ f .D
+    pub place : a .slot .0 ≡ w
+    pub turn : a .clock .0 ≡ P .guard .0
+    pub zero : a .time .0 ≡ 0
+
+  pub record IfSending : Type 0 where
+    pub live : Knows
+    pub message : f .o ≡ P .guard .0
+    pub mine : w ≡ f .p
+    pub place : a .slot .0 ≡ f .p
+    pub low : P .guard .0 ≤ a .clock .0
+    pub high : a .clock .0 + P .tail .0 + 1 ≤ P .ticks .0
+
+  -- What holds of it, by its mode and whether a message is pending.
+  pub data Case : Mode → Bool → Type 0 where
+    hears : IfHeard → Case Waiting true
+    waits : IfWaiting → Case Waiting false
+    about : IfAbout → Case AboutToSend false
+    sends : IfSending → Case Sending false
+
+  pub record InPhase : Type 0 where
+    pub range : NodeWithin P a
+    pub here : Case (a .mode) (a .pending)
 
 -- A node is short of the last tick of the slot at the distance d.
 abbrev pub Short : Plan → Phase → ℕ → NodeState → Type 0
@@ -134,7 +117,7 @@ Sent P Nothing = Unit {0}
 pub record Inv (P : Plan) (r : Run) (y : ℕ) : Type 0 where
   pub room : P .nodes .0 ≤ length (r .nodes)
   pub sent : Sent P (r .last)
-  pub good : (i : ℕ) → i < P .nodes .0 → Good P (phaseOf P (r .last)) y (own P i) (node r i)
+  pub good : (i : ℕ) → i < P .nodes .0 → InPhase P (phaseOf P (r .last)) y (own P i) (node r i)
 
 -- What an accepted plan gives a phase: its ranges, and the rules at every distance up to D.
 pub record Holds (P : Plan) (f : Phase) : Type 0 where

@@ -3,21 +3,20 @@
 use Prim.Native.Nat.{ℕ, _+_, _*_, _≤_, _<_}
 use mathlib.Core.Path.{_≡_, refl, sym, _∙_}
 use mathlib.Core.Logic.{_≢_}
-use mathlib.Core.Bool.{Bool, true, false}
-use native.Mathlib.Decide.{ℕ-discrete}
+use mathlib.Core.Bool.{Bool, false}
 use native.Mathlib.Omega.{arith}
 use Rattle.laws.specs.Ring.{distance}
+use Rattle.laws.proofs.Same.{by-same}
 use Rattle.laws.proofs.Ring.{distance-same, distance-self}
 use Rattle.laws.proofs.Digits.{same-slot, slots-some}
 use Rattle.plan.specs.declared.Plan.{Plan}
 use Rattle.plan.specs.Sending.{own}
 use Rattle.plan.specs.Tested.{Sound}
 use Rattle.run.specs.declared.Mode.{Mode}
-use Rattle.run.specs.declared.Mode.the-variants.{Waiting, AboutToSend, Sending}
 use Rattle.run.specs.declared.NodeState.{NodeState}
 use Rattle.in_step.proofs.Numbers.{Live, not-yet, rule1-brings, rule2-keeps, rule3-keeps}
-use Rattle.in_step.proofs.Invariant.{Phase, KnowsOf, AboutsOf, SendsOf, CaseOf, Good, ticksOf, Short, Holds}
-use Rattle.in_step.proofs.OneNode.{knows-of, ticks-here, not-next}
+use Rattle.in_step.proofs.Invariant.{Phase, ticksOf, Knows, IfAbout, IfSending, Case, hears, waits, about, sends, InPhase, Short, Holds}
+use Rattle.in_step.proofs.OneNode.{unheard, knows, ticks-here, not-next}
 
 -- Node m's turn, at the distance d: it is the next, or node m is about to send. No more time has gone by than the ticks to it can take.
 pub record Turn (P : Plan) (f : Phase) (y m d : ℕ) : Type 0 where
@@ -33,106 +32,95 @@ pub record Gathered (P : Plan) (w : ℕ) (a : NodeState) : Type 0 where
   pub place : a .slot .0 ≡ w
   pub early : a .clock .0 + 2 ≤ P .ticks .0
 
-module _ (P : Plan) (S : Sound P) (f : Phase) (H : Holds P f) (y : ℕ) where
+module _ {P : Plan} (S : Sound P) {f : Phase} (H : Holds P f) {y : ℕ} where
   -- a node about to send has counted to its turn
-  pub about-live : (w : ℕ) (a : NodeState) → AboutsOf P f y w a
-      → Live (P .min .0) (P .max .0) (f .o) (f .lead w) (distance (P .frame .0) (f .p) w * P .ticks .0 + P .guard .0) y 0
-  about-live w a q = rw (q .place, q .turn, q .zero) at (q .live)
+  about-live : {w : ℕ} {a : NodeState} → IfAbout P f y w a → Live (P .min .0) (P .max .0) (f .o) (f .lead w) (distance (P .frame .0) (f .p) w * P .ticks .0 + P .guard .0) y 0
+  about-live v = rw (v .place, v .turn, v .zero) at (v .live)
 
-  pub due-turn : (m : ℕ) (a : NodeState) → m < P .nodes .0 → distance (P .frame .0) (f .p) (own P m) ≡ f .D → Good P f y (own P m) a → Turn P f y m (f .D)
-  due-turn m a h e q = record { below = h; away = e; ahead = H .one; within = omega arith; most = go (a .mode) (a .pending) (q .here) }
+  pub due-turn : (m : ℕ) {a : NodeState} → m < P .nodes .0 → distance (P .frame .0) (f .p) (own P m) ≡ f .D → InPhase P f y (own P m) a → Turn P f y m (f .D)
+  due-turn m {a} h e q = record { below = h; away = e; ahead = H .one; within = omega arith; most = go (q .here) }
     where
       by : (u : ℕ) → u < f .D * P .ticks .0 + P .guard .0 → y + f .o * P .max .0 ≤ u * P .max .0 + a .time .0 → y + f .o * P .max .0 ≤ (f .D * P .ticks .0 + P .guard .0) * P .max .0
-      by u l v = not-yet (P .min .0) (P .max .0) (f .o) u y (a .time .0) (f .D * P .ticks .0) (P .guard .0) l (q .time-low) v
+      by u l v = not-yet (P .min .0) (P .max .0) (f .o) u y (a .time .0) (f .D * P .ticks .0) (P .guard .0) l (q .range .time) v
 
-      go : (n : Mode) (b : Bool) → CaseOf P f y (own P m) a n b → y + f .o * P .max .0 ≤ (f .D * P .ticks .0 + P .guard .0) * P .max .0
-      go Waiting true v =
+      go : {n : Mode} {b : Bool} → Case P f y (own P m) a n b → y + f .o * P .max .0 ≤ (f .D * P .ticks .0 + P .guard .0) * P .max .0
+      go (hears v) =
           let some = slots-some (f .D) (P .ticks .0) (H .one) in
           by (f .o) (omega (arith, v .message, S .ticks-low)) (omega (arith, v .time))
-      go Waiting false v = by (ticksOf P f a) (v .before e) (v .live .most)
-      go AboutToSend true v = absurd v
-      go AboutToSend false v = let l = rw e at (about-live (own P m) a v) in omega (arith, l .most)
-      go Sending true v = absurd v
-      go Sending false v = absurd (not-next P f H (own P m) (v .mine) e)
+      go (waits v) = by (ticksOf P f a) (v .before e) (v .live .most)
+      go (about v) = let l = rw e at (about-live v) in omega (arith, l .most)
+      go (sends v) = absurd (not-next H (own P m) (v .mine) e)
 
-  pub about-turn : (m : ℕ) (a : NodeState) → m < P .nodes .0 → AboutsOf P f y (own P m) a → Turn P f y m (distance (P .frame .0) (f .p) (own P m))
-  about-turn m a h q =
-      let l = about-live (own P m) a q in
-      record { below = h; away = refl; ahead = q .ahead; within = q .within; most = omega (arith, l .most) }
+  about-turn : (m : ℕ) {a : NodeState} → m < P .nodes .0 → IfAbout P f y (own P m) a → Turn P f y m (distance (P .frame .0) (f .p) (own P m))
+  about-turn m h v =
+      let l = about-live v in
+      record { below = h; away = refl; ahead = v .ahead; within = v .within; most = omega (arith, l .most) }
 
   -- up to a turn every other node that counts is short of the last tick of that slot
-  pub others-short : (i m d : ℕ) (a : NodeState) → i < P .nodes .0 → i ≢ m → Turn P f y m d → KnowsOf P f y (own P i) a → Short P f d a
-  others-short i m d a h n t v =
+  others-short : (i m d : ℕ) {a : NodeState} → i < P .nodes .0 → i ≢ m → Turn P f y m d → InPhase P f y (own P i) a → a .pending ≡ false → Short P f d a
+  others-short i m d h n t q e =
       let ahead : 1 ≤ distance (P .frame .0) (f .p) (own P m) = omega (arith, t .away, t .ahead) in
-      rule2-keeps (P .min .0) (P .max .0) (f .z) (d * P .ticks .0) (P .ticks .0) (P .guard .0) v (H .rule2 d (t .within)) (H .spared i m h (t .below) n ahead) (t .most)
+      rule2-keeps (P .min .0) (P .max .0) (f .z) (d * P .ticks .0) (P .ticks .0) (P .guard .0) (knows q e) (H .rule2 d (t .within)) (H .spared i m h (t .below) n ahead) (t .most)
 
   -- and so is the node whose turn is next
-  pub due-short : (w : ℕ) (a : NodeState) (m : Mode) → distance (P .frame .0) (f .p) w ≡ f .D → CaseOf P f y w a m false → Short P f (f .D) a
-  due-short w a Waiting e v = omega (arith, v .before e, S .guard-tail)
-  due-short w a AboutToSend e v =
-      let u : ticksOf P f a ≡ f .D * P .ticks .0 + P .guard .0 = rw (v .place, v .turn, e) in
-      omega (arith, S .guard-tail)
-  due-short w a Sending e v = absurd (not-next P f H w (v .mine) e)
+  due-short : (w : ℕ) {a : NodeState} → distance (P .frame .0) (f .p) w ≡ f .D → InPhase P f y w a → a .pending ≡ false → Short P f (f .D) a
+  due-short w {a} e q z = go (unheard q z)
+    where
+      go : {m : Mode} → Case P f y w a m false → Short P f (f .D) a
+      go (waits v) = omega (arith, v .before e, S .guard-tail)
+      go (about v) =
+          let u : ticksOf P f a ≡ f .D * P .ticks .0 + P .guard .0 = rw (v .place, v .turn, e) in
+          omega (arith, S .guard-tail)
+      go (sends v) = absurd (not-next H w (v .mine) e)
 
   -- so no tick carries a node's count past slot D
-  pub all-short : (i m : ℕ) (a : NodeState) → i < P .nodes .0 → Turn P f y m (f .D) → Good P f y (own P i) a → a .pending ≡ false → Short P f (f .D) a
-  all-short i m a h t q e = go (ℕ-discrete i m)
-    where
-      here : CaseOf P f y (own P i) a (a .mode) false
-      here = rw e at (q .here)
-
-      go : Dec (i ≡ m) → Short P f (f .D) a
-      go (yes e) = due-short (own P i) a (a .mode) (rw e (t .away)) here
-      go (no n) = others-short i m (f .D) a h n t (knows-of P f y (own P i) a (a .mode) here)
+  pub all-short : (i m : ℕ) {a : NodeState} → i < P .nodes .0 → Turn P f y m (f .D) → InPhase P f y (own P i) a → a .pending ≡ false → Short P f (f .D) a
+  all-short i m h t q e = by-same i m (λ s. due-short (own P i) (rw s (t .away)) q e) (λ n. others-short i m (f .D) h n t q e)
 
   -- while a node a is sending, every node is in its slot
-  pub all-here : (w w′ : ℕ) (a b : NodeState) → a .time .0 ≤ P .max .0 → SendsOf P f y w a → Good P f y w′ b → b .slot .0 ≡ f .p
-  all-here w w′ a b hx v q = go (b .mode) (b .pending) (q .here)
+  pub all-here : {w w′ : ℕ} {a b : NodeState} → a .time .0 ≤ P .max .0 → IfSending P f y w a → InPhase P f y w′ b → b .slot .0 ≡ f .p
+  all-here {w} {w′} {a} {b} hx v q = go (q .here)
     where
-      counts : KnowsOf P f y w′ b → b .slot .0 ≡ f .p
+      counts : Knows P f y w′ b → b .slot .0 ≡ f .p
       counts k =
           let l : Live (P .min .0) (P .max .0) (P .guard .0) (f .lead w) (a .clock .0) y (a .time .0) = rw (v .message, ticks-here P (f .p) (a .clock .0) (a .slot .0) (H .start) (v .place)) at (v .live) in
           let l′ : Live (P .min .0) (P .max .0) (P .guard .0) (f .lead w′) (ticksOf P f b) y (b .time .0) = rw (v .message) at k in
           let u = rule3-keeps (P .min .0) (P .max .0) (P .ticks .0) (P .tail .0) l′ l (H .rule3) (omega (arith, v .message, H .lead-high w′)) (v .high) hx in
-          let none = same-slot (distance (P .frame .0) (f .p) (b .slot .0)) 0 (P .ticks .0) (b .clock .0) (omega arith) (q .clock-low) (omega arith) in
-          distance-same (P .frame .0) (f .p) (b .slot .0) (f .p) (H .start) (q .slot-low) (H .start) (none ∙ sym (distance-self (P .frame .0) (f .p) (H .start)))
+          let none = same-slot (distance (P .frame .0) (f .p) (b .slot .0)) 0 (P .ticks .0) (b .clock .0) (omega arith) (q .range .clock) (omega arith) in
+          distance-same (P .frame .0) (f .p) (b .slot .0) (f .p) (H .start) (q .range .slot) (H .start) (none ∙ sym (distance-self (P .frame .0) (f .p) (H .start)))
 
-      go : (m : Mode) (p : Bool) → CaseOf P f y w′ b m p → b .slot .0 ≡ f .p
-      go Waiting true h = h .place
-      go Waiting false h = counts (h .live)
-      go AboutToSend true h = absurd h
-      go AboutToSend false h = counts (h .live)
-      go Sending true h = absurd h
-      go Sending false h = h .place
+      go : {m : Mode} {p : Bool} → Case P f y w′ b m p → b .slot .0 ≡ f .p
+      go (hears h) = h .place
+      go (waits h) = counts (h .live)
+      go (about h) = counts (h .live)
+      go (sends h) = h .place
 
   -- while node m is about to send, no other node is pending, and all are in its slot, two ticks or more before the end
-  pub gathered : (i m : ℕ) (a b : NodeState) → i < P .nodes .0 → m < P .nodes .0 → i ≢ m → own P m < P .frame .0 → AboutsOf P f y (own P m) a → Good P f y (own P i) b
+  pub gathered : (i m : ℕ) {a b : NodeState} → i < P .nodes .0 → m < P .nodes .0 → i ≢ m → own P m < P .frame .0 → IfAbout P f y (own P m) a → InPhase P f y (own P i) b
       → Gathered P (own P m) b
-  gathered i m a b hi hm n hw v q = go (b .mode) (b .pending) refl (q .here)
+  gathered i m {a} {b} hi hm n hw v q = go refl (q .here)
     where
       d : ℕ
       d = distance (P .frame .0) (f .p) (own P m)
 
       brings : (u : ℕ) → y + f .o * P .max .0 ≤ u * P .max .0 + b .time .0 → d * P .ticks .0 ≤ u
       brings u h =
-          let l = about-live (own P m) a v in
-          rule1-brings (P .min .0) (P .max .0) (f .o) (f .lead (own P m)) u y (b .time .0) (d * P .ticks .0) (P .guard .0) (H .rule1 d (v .within)) (H .lead-high (own P m)) (omega (arith, l .least)) (q .time-low) h
+          let l = about-live v in
+          rule1-brings (P .min .0) (P .max .0) (f .o) (f .lead (own P m)) u y (b .time .0) (d * P .ticks .0) (P .guard .0) (H .rule1 d (v .within)) (H .lead-high (own P m)) (omega (arith, l .least)) (q .range .time) h
 
-      counts : b .pending ≡ false → KnowsOf P f y (own P i) b → Gathered P (own P m) b
-      counts e l =
-          let u = brings (ticksOf P f b) (l .most) in
-          let short = others-short i m d b hi n (about-turn m a hm v) l in
-          let same = same-slot (distance (P .frame .0) (f .p) (b .slot .0)) d (P .ticks .0) (b .clock .0) u (q .clock-low) (omega arith) in
+      counts : b .pending ≡ false → Gathered P (own P m) b
+      counts e =
+          let u = brings (ticksOf P f b) (knows q e .most) in
+          let short = others-short i m d hi n (about-turn m hm v) q e in
+          let same = same-slot (distance (P .frame .0) (f .p) (b .slot .0)) d (P .ticks .0) (b .clock .0) u (q .range .clock) (omega arith) in
           let short′ : d * P .ticks .0 + b .clock .0 + 1 < d * P .ticks .0 + P .ticks .0 = rw same at short in
-          record { quiet = e; place = distance-same (P .frame .0) (f .p) (b .slot .0) (own P m) (H .start) (q .slot-low) hw same; early = omega arith }
+          record { quiet = e; place = distance-same (P .frame .0) (f .p) (b .slot .0) (own P m) (H .start) (q .range .slot) hw same; early = omega arith }
 
-      go : (c : Mode) (p : Bool) → b .pending ≡ p → CaseOf P f y (own P i) b c p → Gathered P (own P m) b
-      go Waiting true e h =
+      go : {c : Mode} {p : Bool} → b .pending ≡ p → Case P f y (own P i) b c p → Gathered P (own P m) b
+      go e (hears h) =
           let u = brings (f .o) (omega (arith, h .time)) in
           let some = slots-some d (P .ticks .0) (v .ahead) in
           absurd (omega (arith, h .message, S .guard-tail))
-      go Waiting false e h = counts e (h .live)
-      go AboutToSend true e h = absurd h
-      go AboutToSend false e h = counts e (h .live)
-      go Sending true e h = absurd h
-      go Sending false e h = counts e (h .live)
+      go e (waits h) = counts e
+      go e (about h) = counts e
+      go e (sends h) = counts e

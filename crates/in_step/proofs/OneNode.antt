@@ -1,13 +1,14 @@
 -- A tick and a delay of one node keep what the invariant says of it.
 use Prim.Native.Nat.{ℕ, _+_, _*_, _%_, _≤_, _<_}
-use mathlib.Core.Path.{_≡_, refl, sym, ap, _∙_}
+use mathlib.Core.Path.{_≡_, refl, sym, ap, subst, _∙_}
 use mathlib.Core.Logic.{_≢_}
 use mathlib.Core.Bool.{Bool, true, false}
-use native.Mathlib.Decide.{ℕ-discrete}
+use native.Mathlib.Nat.{mul-le-mul-right}
 use native.Mathlib.Omega.{arith}
 use Rattle.laws.specs.Ring.{distance}
 use Rattle.laws.proofs.Bools.{clash}
-use Rattle.laws.proofs.Ring.{distance-next, distance-same, distance-self, next-below}
+use Rattle.laws.proofs.Same.{by-same}
+use Rattle.laws.proofs.Ring.{distance-same, distance-self}
 use Rattle.laws.proofs.Digits.{same-slot, slot-within, slots-some}
 use Rattle.plan.specs.declared.Plan.{Plan}
 use Rattle.plan.specs.Tested.{Sound}
@@ -15,21 +16,24 @@ use Rattle.run.specs.declared.Mode.{Mode}
 use Rattle.run.specs.declared.Mode.the-variants.{Waiting, AboutToSend, Sending}
 use Rattle.run.specs.declared.NodeState.{NodeState}
 use Rattle.run.specs.State.{isAbout}
-use Rattle.run.specs.Moves.{clockAfter, slotAfter, modeAfter, nodeTicked, nodeDelayed}
+use Rattle.run.specs.Moves.{nodeTicked, nodeDelayed}
 use Rattle.run.specs.Reckoning.{ticksFrom}
-use Rattle.run.proofs.Outcomes.{clock-heard, clock-on, clock-round, mode-turns, mode-elsewhere, mode-waits, mode-ends, mode-sends, slot-moves, slot-stays, slot-sending}
+use Rattle.run.proofs.Ranges.{ticked-within}
+use Rattle.run.proofs.TickCases.{tickedTo, Strays, TickTo, heard, goes-round, turns-about, waits-on, sends-on, ends, strays, tick-of, counts-round}
 use Rattle.in_step.proofs.Numbers.{live-tick, live-heard, live-delay}
-use Rattle.in_step.proofs.Invariant.{Phase, Knows, Heard, Waits, Abouts, Sends, Case, KnowsOf, CaseOf, Good, Short, Holds}
+use Rattle.in_step.proofs.Invariant.{Phase, ticksOf, Knows, IfWaiting, IfAbout, Case, hears, waits, about, sends, InPhase, Short, Holds}
 
--- The state of a node, from its parts.
-abbrev pub stateOf : (c s x : ℕ) → Mode → Bool → NodeState
-stateOf c s x m b = record { clock = record { 0 = c }; slot = record { 0 = s }; time = record { 0 = x }; mode = m; pending = b }
+-- what holds of a node that is not pending; it counts
+pub unheard : {P : Plan} {f : Phase} {y w : ℕ} {a : NodeState} → InPhase P f y w a → a .pending ≡ false → Case P f y w a (a .mode) false
+unheard {P} {f} {y} {w} {a} q e = subst (λ (b : Bool). Case P f y w a (a .mode) b) e (q .here)
 
--- every node that is not pending counts
-pub knows-of : (P : Plan) (f : Phase) (y w : ℕ) (a : NodeState) (m : Mode) → CaseOf P f y w a m false → KnowsOf P f y w a
-knows-of P f y w a Waiting v = v .live
-knows-of P f y w a AboutToSend v = v .live
-knows-of P f y w a Sending v = v .live
+pub knows : {P : Plan} {f : Phase} {y w : ℕ} {a : NodeState} → InPhase P f y w a → a .pending ≡ false → Knows P f y w a
+knows {P} {f} {y} {w} {a} q e = go (unheard q e)
+  where
+    go : {m : Mode} → Case P f y w a m false → Knows P f y w a
+    go (waits v) = v .live
+    go (about v) = v .live
+    go (sends v) = v .live
 
 -- from p to p there is no slot to count, so a node's ticks there are its clock
 pub away-none : (P : Plan) (p s : ℕ) → p < P .frame .0 → s ≡ p → distance (P .frame .0) p s ≡ 0
@@ -39,146 +43,80 @@ pub ticks-here : (P : Plan) (p c s : ℕ) → p < P .frame .0 → s ≡ p → ti
 ticks-here P p c s h e = rw (away-none P p s h e) (omega arith)
 
 -- the turn of the sender of p is not next
-pub not-next : (P : Plan) (f : Phase) → Holds P f → (w : ℕ) → w ≡ f .p → distance (P .frame .0) (f .p) w ≢ f .D
-not-next P f H w e q = omega (arith, away-none P (f .p) w (H .start) e, H .one)
+pub not-next : {P : Plan} {f : Phase} → Holds P f → (w : ℕ) → w ≡ f .p → distance (P .frame .0) (f .p) w ≢ f .D
+not-next {P} {f} H w e q = omega (arith, away-none P (f .p) w (H .start) e, H .one)
 
-module _ (P : Plan) (S : Sound P) (f : Phase) (H : Holds P f) (y w : ℕ) (hw : w < P .frame .0) where
-  -- a node after a tick, by the outcomes of its clock, slot and mode
-  pub ticked-good : (c s x : ℕ) (m : Mode) (b : Bool) {c′ s′ : ℕ} {m′ : Mode} → clockAfter P b c ≡ c′ → slotAfter P c s m ≡ s′ → modeAfter P w c s m ≡ m′ → c′ < P .ticks .0 → s′ < P .frame .0
-      → Case P f y w c′ s′ 0 m′ false → Good P f y w (nodeTicked P w (stateOf c s x m b))
-  ticked-good c s x m b clock slot mode hc hs h = rw (clock, slot, mode) (record { clock-low = hc; slot-low = hs; time-low = omega arith; here = h })
-
-  -- a tick on a pending message: the clock is set to g + 1, one tick after the message
-  tick-heard : (c s x : ℕ) → s < P .frame .0 → x ≤ P .max .0 → Heard P f y w c s x → Good P f y w (nodeTicked P w (stateOf c s x Waiting true))
-  tick-heard c s x hs hx q =
-      let stays = slot-stays P c s (omega (arith, q .early)) in
-      let waits = mode-elsewhere P w c s (λ e. q .other (sym e ∙ q .place)) in
-      let u = ticks-here P (f .p) (P .guard .0 + 1) s (H .start) (q .place) in
-      let some = slots-some (f .D) (P .ticks .0) (H .one) in
-      ticked-good c s x Waiting true (clock-heard P c) stays waits (omega (arith, S .guard-tail)) hs
-      (record {
-        live = live-heard (q .leads) (u ∙ ap (λ (n : ℕ). n + 1) (sym (q .message))) (q .time) hx;
-        before = λ e. omega (arith, S .ticks-low);
-      })
-
+module _ {P : Plan} (S : Sound P) {f : Phase} (H : Holds P f) {y w : ℕ} (hw : w < P .frame .0) {a : NodeState} (q : InPhase P f y w a) (ripe : P .min .0 ≤ a .time .0) where
   -- the node's turn comes with the tick that counts to D slots and g ticks
-  pub due-now : (c s : ℕ) → c < P .ticks .0 → s < P .frame .0 → distance (P .frame .0) (f .p) w ≡ f .D → ticksFrom P (f .p) c s + 1 ≡ f .D * P .ticks .0 + P .guard .0
-      → (s ≡ w) × (c + 1 ≡ P .guard .0)
-  due-now c s hc hs e q =
-      let d = distance (P .frame .0) (f .p) s in
+  not-due : (a .slot .0 ≡ w → a .clock .0 + 1 ≢ P .guard .0) → distance (P .frame .0) (f .p) w ≡ f .D → ticksOf P f a + 1 ≢ f .D * P .ticks .0 + P .guard .0
+  not-due n e z =
+      let d = distance (P .frame .0) (f .p) (a .slot .0) in
       let low = S .guard-low in
       let high = S .guard-tail in
-      let same : d ≡ f .D = same-slot d (f .D) (P .ticks .0) c (omega arith) hc (omega arith) in
-      let q′ : f .D * P .ticks .0 + c + 1 ≡ f .D * P .ticks .0 + P .guard .0 = rw same at q in
-      (distance-same (P .frame .0) (f .p) s w (H .start) hs hw (same ∙ sym e), omega arith)
+      let same : d ≡ f .D = same-slot d (f .D) (P .ticks .0) (a .clock .0) (omega arith) (q .range .clock) (omega arith) in
+      let z′ : f .D * P .ticks .0 + a .clock .0 + 1 ≡ f .D * P .ticks .0 + P .guard .0 = rw same at z in
+      n (distance-same (P .frame .0) (f .p) (a .slot .0) w (H .start) (q .range .slot) hw (same ∙ sym e)) (omega arith)
+
+  -- a tick counts one more
+  counted : (c s : ℕ) (m : Mode) → ticksFrom P (f .p) c s ≡ ticksOf P f a + 1 → Knows P f y w a → Knows P f y w (tickedTo c s m)
+  counted c s m e l = rw e (live-tick ripe (q .range .time) l)
 
   -- a counted tick that stays waiting
-  pub waits-on : (c s x c′ s′ : ℕ) → P .min .0 ≤ x → x ≤ P .max .0 → Waits P f y w c s x → ticksFrom P (f .p) c′ s′ ≡ ticksFrom P (f .p) c s + 1
-      → (distance (P .frame .0) (f .p) w ≡ f .D → ticksFrom P (f .p) c s + 1 ≢ f .D * P .ticks .0 + P .guard .0) → Waits P f y w c′ s′ 0
-  waits-on c s x c′ s′ hn hx q e n =
-      record {
-        live = rw e (live-tick hn hx (q .live));
-        before = λ a. rw e (let b = q .before a in let m = n a in omega arith);
-      }
+  stays-waiting : (c s : ℕ) → ticksFrom P (f .p) c s ≡ ticksOf P f a + 1 → (distance (P .frame .0) (f .p) w ≡ f .D → ticksOf P f a + 1 ≢ f .D * P .ticks .0 + P .guard .0)
+      → IfWaiting P f y w a → IfWaiting P f y w (tickedTo c s Waiting)
+  stays-waiting c s e n v =
+      record { live = counted c s Waiting e (v .live); before = λ d. rw e (let b = v .before d in let m = n d in omega arith) }
 
   -- a tick that makes the node about to send: its slot lies ahead of p, and no farther than D
-  pub turns-about : (c s x : ℕ) → P .min .0 ≤ x → x ≤ P .max .0 → Waits P f y w c s x → ticksFrom P (f .p) c s + 1 < f .D * P .ticks .0 + P .ticks .0 → s ≡ w → c + 1 ≡ P .guard .0
-      → Abouts P f y w (c + 1) s 0
-  turns-about c s x hn hx q short e t =
-      let d = distance (P .frame .0) (f .p) in
+  turns : a .slot .0 ≡ w → a .clock .0 + 1 ≡ P .guard .0 → Short P f (f .D) a → IfWaiting P f y w a → IfAbout P f y w (tickedTo (a .clock .0 + 1) (a .slot .0) AboutToSend)
+  turns e t short v =
+      let d = distance (P .frame .0) (f .p) (a .slot .0) in
       record {
-        live = let u : ticksFrom P (f .p) (c + 1) s ≡ ticksFrom P (f .p) c s + 1 = omega arith in rw u (live-tick hn hx (q .live));
-        ahead = rw e at (ahead (ℕ-discrete (d s) 0));
-        within = rw e at (slot-within (d s) (f .D) (P .ticks .0) (c + 1) (omega arith));
+        live = counted (a .clock .0 + 1) (a .slot .0) AboutToSend (omega arith) (v .live);
+        ahead = rw e at (by-same {A = 1 ≤ d} d 0 (λ z.
+            let u : f .lead w ≤ 0 * P .ticks .0 + a .clock .0 = rw z at (v .live .above) in
+            absurd (omega (arith, H .early, H .lead-low w))) (λ z. omega arith));
+        within = rw e at (slot-within d (f .D) (P .ticks .0) (a .clock .0 + 1) (omega arith));
         place = e;
         turn = t;
         zero = refl;
       }
+
+  -- a tick keeps a node in its phase, where it does not carry its count past slot D
+  pub tick-keeps : (a .pending ≡ false → Short P f (f .D) a) → InPhase P f y w (nodeTicked P w a)
+  tick-keeps short = record { range = ticked-within P S w a (q .range); here = go (tick-of P S w a (q .range .clock)) short (q .here) }
     where
-      ahead : Dec (distance (P .frame .0) (f .p) s ≡ 0) → 1 ≤ distance (P .frame .0) (f .p) s
-      ahead (yes z) =
-          let u : f .lead w ≤ 0 * P .ticks .0 + c = rw z at (q .live .above) in
-          absurd (omega (arith, H .early, H .lead-low w))
-      ahead (no z) = omega arith
+      stray : {m : Mode} {b : Bool} → Case P f y w a m b → Strays P w (a .clock .0) (a .slot .0) m b → ⊥
+      stray (hears v) h = v .other (sym (h (omega (arith, v .early))) ∙ v .place)
+      stray (waits v) h = h
+      stray (about v) h = omega (arith, v .zero, S .min-low)
+      stray (sends v) h = omega (arith, v .high, S .tail-low)
 
-  tick-waits : (c s x : ℕ) → c < P .ticks .0 → s < P .frame .0 → x ≤ P .max .0 → P .min .0 ≤ x → ticksFrom P (f .p) c s + 1 < f .D * P .ticks .0 + P .ticks .0
-      → Waits P f y w c s x → Good P f y w (nodeTicked P w (stateOf c s x Waiting false))
-  tick-waits c s x hc hs hx hn short q = go (ℕ-discrete (c + 1) (P .ticks .0)) (ℕ-discrete s w) (ℕ-discrete (c + 1) (P .guard .0))
-    where
-      d : ℕ
-      d = distance (P .frame .0) (f .p) s
-
-      waits : (s ≡ w → c + 1 ≢ P .guard .0) → Waits P f y w (c + 1) s 0
-      waits n = waits-on c s x (c + 1) s hn hx q (omega arith) (λ a b. let o = due-now c s hc hs a b in n (o .0) (o .1))
-
-      within : c + 1 ≢ P .ticks .0 → {m : Mode} → modeAfter P w c s Waiting ≡ m → Case P f y w (c + 1) s 0 m false → Good P f y w (nodeTicked P w (stateOf c s x Waiting false))
-      within r mode h = ticked-good c s x Waiting false (clock-on P c (omega (arith, r))) (slot-stays P c s r) mode (omega arith) hs h
-
-      go : Dec (c + 1 ≡ P .ticks .0) → Dec (s ≡ w) → Dec (c + 1 ≡ P .guard .0) → Good P f y w (nodeTicked P w (stateOf c s x Waiting false))
-      go (yes r) a b =
-          let g : c + 1 ≢ P .guard .0 = omega (arith, S .guard-tail) in
-          let far : d + 1 ≤ f .D = slot-within (d + 1) (f .D) (P .ticks .0) 0 (omega arith) in
-          let next = distance-next (P .frame .0) (f .p) s (H .start) hs (omega (arith, far, H .gap)) in
-          let u : (d + 1) * P .ticks .0 + 0 ≡ d * P .ticks .0 + c + 1 = omega arith in
-          ticked-good c s x Waiting false (clock-round P c r) (slot-moves P c s r) (mode-waits P w c s g) (omega arith) (next-below (P .frame .0) s (omega arith))
-          (waits-on c s x 0 ((s + 1) % P .frame .0) hn hx q (rw next u) (λ a b. g (due-now c s hc hs a b .1)))
-      go (no r) (yes e) (yes t) = within r (mode-turns P w c s e t) (turns-about c s x hn hx q short e t)
-      go (no r) (yes e) (no t) = within r (mode-waits P w c s t) (waits (λ a. t))
-      go (no r) (no n) b = within r (mode-elsewhere P w c s n) (waits (λ a. absurd (n a)))
-
-  tick-sends : (c s x : ℕ) → s < P .frame .0 → x ≤ P .max .0 → P .min .0 ≤ x → Sends P f y w c s x → Good P f y w (nodeTicked P w (stateOf c s x Sending false))
-  tick-sends c s x hs hx hn q = go (ℕ-discrete (c + P .tail .0 + 1) (P .ticks .0))
-    where
-      live : Knows P f y w (c + 1) s 0
-      live = let u : ticksFrom P (f .p) (c + 1) s ≡ ticksFrom P (f .p) c s + 1 = omega arith in rw u (live-tick hn hx (q .live))
-
-      within : {m : Mode} → modeAfter P w c s Sending ≡ m → Case P f y w (c + 1) s 0 m false → Good P f y w (nodeTicked P w (stateOf c s x Sending false))
-      within mode h =
-          let on : c + 1 < P .ticks .0 = omega (arith, q .high, S .tail-low) in
-          ticked-good c s x Sending false (clock-on P c on) (slot-sending P c s) mode on hs h
-
-      go : Dec (c + P .tail .0 + 1 ≡ P .ticks .0) → Good P f y w (nodeTicked P w (stateOf c s x Sending false))
-      go (yes e) = within (mode-ends P w c s e) (record { live = live; before = λ a. absurd (not-next P f H w (q .mine) a) })
-      go (no n) =
-          within (mode-sends P w c s n)
-          (record {
-            live = live;
-            message = q .message;
-            mine = q .mine;
-            place = q .place;
-            low = omega (arith, q .low);
-            high = omega (arith, q .high);
-          })
-
-  -- a tick keeps a node good, where it does not carry its count past slot D
-  pub tick-good : (a : NodeState) → P .min .0 ≤ a .time .0 → (a .pending ≡ false → Short P f (f .D) a) → Good P f y w a → Good P f y w (nodeTicked P w a)
-  tick-good a h short q = go (a .mode) (a .pending) short (q .here)
-    where
-      go : (m : Mode) (b : Bool) → (b ≡ false → Short P f (f .D) a) → CaseOf P f y w a m b → Good P f y w (nodeTicked P w (stateOf (a .clock .0) (a .slot .0) (a .time .0) m b))
-      go Waiting true short v = tick-heard (a .clock .0) (a .slot .0) (a .time .0) (q .slot-low) (q .time-low) v
-      go Waiting false short v = tick-waits (a .clock .0) (a .slot .0) (a .time .0) (q .clock-low) (q .slot-low) (q .time-low) h (short refl) v
-      go AboutToSend true short v = absurd v
-      go AboutToSend false short v = absurd (omega (arith, v .zero, S .min-low))
-      go Sending true short v = absurd v
-      go Sending false short v = tick-sends (a .clock .0) (a .slot .0) (a .time .0) (q .slot-low) (q .time-low) h v
+      go : {m : Mode} {b : Bool} {n : NodeState} → TickTo P w (a .clock .0) (a .slot .0) m b n → (b ≡ false → Short P f (f .D) a) → Case P f y w a m b → Case P f y w n (n .mode) (n .pending)
+      go (heard d l) short (hears v) =
+          let u = ticks-here P (f .p) (P .guard .0 + 1) (a .slot .0) (H .start) (v .place) in
+          let some = slots-some (f .D) (P .ticks .0) (H .one) in
+          waits (record { live = live-heard (v .leads) (u ∙ ap (λ (n : ℕ). n + 1) (sym (v .message))) (v .time) (q .range .time); before = λ e. omega (arith, S .ticks-low) })
+      go (goes-round e) short (waits v) =
+          let z = short refl in
+          let gap : (f .D + 1) * P .ticks .0 ≤ P .frame .0 * P .ticks .0 = mul-le-mul-right (P .ticks .0) (omega (arith, H .gap)) in
+          let round = counts-round P (f .p) (a .clock .0) (a .slot .0) (H .start) (q .range .slot) e (omega arith) in
+          waits (stays-waiting 0 ((a .slot .0 + 1) % P .frame .0) round (not-due (λ d. omega (arith, S .guard-tail))) v)
+      go (turns-about e t) short (waits v) = about (turns e t (short refl) v)
+      go (waits-on l n) short (waits v) = waits (stays-waiting (a .clock .0 + 1) (a .slot .0) (omega arith) (not-due n) v)
+      go (sends-on l n) short (sends v) =
+          let live = counted (a .clock .0 + 1) (a .slot .0) Sending (omega arith) (v .live) in
+          sends (record { live = live; message = v .message; mine = v .mine; place = v .place; low = omega (arith, v .low); high = omega (arith, v .high) })
+      go (ends e) short (sends v) =
+          waits (record { live = counted (a .clock .0 + 1) (a .slot .0) Waiting (omega arith) (v .live); before = λ d. absurd (not-next H w (v .mine) d) })
+      go (strays m b h) short v = absurd (stray v h)
 
 -- so does a delay, of a node that is not about to send
-module _ (P : Plan) (f : Phase) (y w d : ℕ) where
-  delay-case : (c s x : ℕ) (m : Mode) (b : Bool) → isAbout m ≡ false → Case P f y w c s x m b → Case P f (y + d) w c s (x + d) m b
-  delay-case c s x Waiting true n q =
-      record { message = q .message; leads = q .leads; place = q .place; early = q .early; time = omega (arith, q .time); other = q .other }
-  delay-case c s x Waiting false n q = record { live = live-delay d (q .live); before = q .before }
-  delay-case c s x AboutToSend true n q = absurd q
-  delay-case c s x AboutToSend false n q = clash true refl n
-  delay-case c s x Sending true n q = absurd q
-  delay-case c s x Sending false n q =
-      record { live = live-delay d (q .live); message = q .message; mine = q .mine; place = q .place; low = q .low; high = q .high }
-
-  pub delay-good : (a : NodeState) → isAbout (a .mode) ≡ false → a .time .0 + d ≤ P .max .0 → Good P f y w a → Good P f (y + d) w (nodeDelayed d a)
-  delay-good a n h q =
-      record {
-        clock-low = q .clock-low;
-        slot-low = q .slot-low;
-        time-low = h;
-        here = delay-case (a .clock .0) (a .slot .0) (a .time .0) (a .mode) (a .pending) n (q .here);
-      }
+pub delay-keeps : {P : Plan} {f : Phase} {y w : ℕ} {a : NodeState} (d : ℕ) → isAbout (a .mode) ≡ false → a .time .0 + d ≤ P .max .0 → InPhase P f y w a → InPhase P f (y + d) w (nodeDelayed d a)
+delay-keeps {P} {f} {y} {w} {a} d n h q = record { range = record { clock = q .range .clock; slot = q .range .slot; time = h }; here = go n (q .here) }
+  where
+    go : {m : Mode} {b : Bool} → isAbout m ≡ false → Case P f y w a m b → Case P f (y + d) w (nodeDelayed d a) m b
+    go n (hears v) = hears (record { message = v .message; leads = v .leads; place = v .place; early = v .early; time = omega (arith, v .time); other = v .other })
+    go n (waits v) = waits (record { live = live-delay d (v .live); before = v .before })
+    go n (about v) = clash true refl n
+    go n (sends v) = sends (record { live = live-delay d (v .live); message = v .message; mine = v .mine; place = v .place; low = v .low; high = v .high })

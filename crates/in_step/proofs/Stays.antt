@@ -3,54 +3,51 @@ use Prim.Native.Nat.{ℕ, _<_}
 use mathlib.Core.Path.{_≡_, refl, sym, ap, _∙_}
 use mathlib.Core.Bool.{Bool, true, false, not, _&&_}
 use mathlib.Core.List.{[], _∷_}
-use borrow.Author.Tests.{lt-ltb, le-leb, lt-leb, eq-eqb}
+use borrow.Author.Tests.{lt-ltb, lt-leb, eq-eqb}
 use lib.Dec.{leb}
 use Rattle.laws.specs.Row.{given}
-use Rattle.laws.specs.Below.{anyBelow, allBelow}
-use Rattle.laws.proofs.Bools.{clash, and-both}
-use Rattle.laws.proofs.Belows.{any-never, all-ever}
+use Rattle.laws.specs.Below.{anyBelow}
+use Rattle.laws.proofs.Bools.{clash}
+use Rattle.laws.proofs.Belows.{any-never}
 use Rattle.laws.proofs.Rows.{off-all}
 use Rattle.plan.specs.declared.Plan.{Plan}
-use Rattle.plan.specs.Sending.{own}
 use Rattle.plan.specs.Refusals.{run-outside, node-unknown, reckoning-below-0}
 use Rattle.plan.specs.Tested.{planNumber, Sound}
 use Rattle.plan.proofs.Sound.{sound, own-in-frame}
 use Rattle.rules.proofs.Distances.{RulesHold, rules-hold}
 use Rattle.run.specs.declared.Mode.{Mode}
-use Rattle.run.specs.declared.Mode.the-variants.{Waiting, AboutToSend, Sending}
 use Rattle.run.specs.declared.Last.{Last}
 use Rattle.run.specs.declared.Last.the-variants.{At, Nothing}
 use Rattle.run.specs.declared.NodeState.{NodeState}
 use Rattle.run.specs.declared.Run.{Run}
 use Rattle.run.specs.declared.Reckoned.the-variants.{Ticks}
-use Rattle.run.specs.State.{node, freshRun, isSending, inRange, nodeInRange, lastInRange, elsewhere, sendsApart, outOfStep}
+use Rattle.run.specs.State.{node, freshRun, isSending, inRange, lastInRange, elsewhere, sendsApart, outOfStep}
 use Rattle.run.specs.Steps.{runAfter}
 use Rattle.run.specs.Reckoning.{timeSince, reckoning, belowZero, reckoningNumber, reckonedTested, reckonedOf}
+use Rattle.run.proofs.Ranges.{nodes-range}
 use Rattle.in_step.specs.InStep.{Reckons, StaysInStep}
-use Rattle.in_step.proofs.Invariant.{Phase, phaseOf, SendsOf, CaseOf, Good, Sent, Inv}
+use Rattle.in_step.proofs.Invariant.{Phase, IfSending, Case, hears, waits, about, sends, InPhase, Sent, Inv}
 use Rattle.in_step.proofs.Moment.{all-here}
 use Rattle.in_step.proofs.Phases.{due-of}
 use Rattle.in_step.proofs.Kept.{short-of, inv-fresh, inv-steps}
 use Rattle.in_step.proofs.Counts.{Counts, counts-of}
 
 -- a node that is sending, from its mode
-sends-here : (P : Plan) (f : Phase) (y w : ℕ) (a : NodeState) → isSending (a .mode) ≡ true → Good P f y w a → SendsOf P f y w a
-sends-here P f y w a e q = go (a .mode) (a .pending) e (q .here)
+sends-here : {P : Plan} {f : Phase} {y w : ℕ} {a : NodeState} → isSending (a .mode) ≡ true → InPhase P f y w a → IfSending P f y w a
+sends-here {P} {f} {y} {w} {a} e q = go e (q .here)
   where
-    go : (m : Mode) (b : Bool) → isSending m ≡ true → CaseOf P f y w a m b → SendsOf P f y w a
-    go Waiting b e v = clash false e refl
-    go AboutToSend b e v = clash false e refl
-    go Sending true e v = absurd v
-    go Sending false e v = v
+    go : {m : Mode} {b : Bool} → isSending m ≡ true → Case P f y w a m b → IfSending P f y w a
+    go e (hears v) = clash false e refl
+    go e (waits v) = clash false e refl
+    go e (about v) = clash false e refl
+    go e (sends v) = v
 
 module _ (P : Plan) (S : Sound P) (A : RulesHold P) (r : Run) (y : ℕ) (v : Inv P r y) where
   -- while a node sends every node is in its slot
   pub together : (i j : ℕ) → i < P .nodes .0 → j < P .nodes .0 → isSending (node r i .mode) ≡ true → node r j .slot .0 ≡ node r i .slot .0
   together i j hi hj e =
-      let f = phaseOf P (r .last) in
-      let H = due-of P S A (r .last) (v .sent) .holds in
-      let sends = sends-here P f y (own P i) (node r i) e (v .good i hi) in
-      all-here P S f H y (own P i) (own P j) (node r i) (node r j) (v .good i hi .time-low) sends (v .good j hj) ∙ sym (sends .place)
+      let sends = sends-here e (v .good i hi) in
+      all-here S (due-of P S A (r .last) (v .sent) .holds) (v .good i hi .range .time) sends (v .good j hj) ∙ sym (sends .place)
 
   pub never-11 : outOfStep P r ≡ false
   unfolding outOfStep sendsApart
@@ -61,24 +58,14 @@ module _ (P : Plan) (S : Sound P) (A : RulesHold P) (r : Run) (y : ℕ) (v : Inv
       go i h false e = rw e
 
   pub in-range : inRange P r ≡ true
-  unfolding inRange
-  in-range =
-      and-both (allBelow (P .nodes .0) (λ i. nodeInRange P (node r i))) (lastInRange P (r .last))
-      (all-ever (P .nodes .0) (λ i. nodeInRange P (node r i)) (λ i h. node-in (node r i) (v .good i h)))
-      (last-in (r .last) (v .sent))
+  in-range = nodes-range P r (λ i h. v .good i h .range) (last-in (r .last) (v .sent))
     where
-      node-in : {f : Phase} {w : ℕ} (a : NodeState) → Good P f y w a → nodeInRange P a ≡ true
-      node-in a q =
-          let clock = lt-ltb (a .clock .0) (P .ticks .0) (q .clock-low) in
-          let slot = lt-ltb (a .slot .0) (P .frame .0) (q .slot-low) in
-          rw (clock, slot, le-leb (a .time .0) (P .max .0) (q .time-low))
-
       last-in : (l : Last) → Sent P l → lastInRange P l ≡ true
       last-in (At q) h = lt-ltb (q .0) (P .frame .0) (rw (h .slot) at (own-in-frame P S (h .by) (h .below)))
       last-in Nothing h = refl
 
   pub counts : (i : ℕ) → i < P .nodes .0 → Counts P (r .last) y (node r i)
-  counts i h = counts-of P S A y (own P i) (node r i) (r .last) (v .sent) (short-of P S A r y v i h) (v .good i h)
+  counts i h = counts-of S A (r .last) (v .sent) (short-of P S A r y v i h) (v .good i h)
 
   pub answered : planNumber P ≡ 0 → (i : ℕ) → i < P .nodes .0 → reckonedOf P r i ≡ Ticks (reckoning P (r .last) (node r i))
   unfolding reckonedOf reckonedTested reckoningNumber

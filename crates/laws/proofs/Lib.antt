@@ -7,3 +7,4 @@ pub mod Products
 pub mod Ring
 pub mod Sums
 pub mod Digits
+pub mod Same

@@ -28,7 +28,7 @@ use Rattle.shown.specs.declared.Parts.{Parts}
 use Rattle.shown.specs.Parts.{predecessorAt, widestFrom, widestNode, senderIn, silentIn, partsWith, partsFor}
 use Rattle.shown.proofs.Roles.{Roles, farOf, Failure, one, two, three, far-away}
 
-module _ (P : Plan) (o : Sound P) where
+module _ (P : Plan) (S : Sound P) where
   -- the sender of a slot in which somebody sends
   sender-sends : (s : ℕ) → sends P s ≡ true → (senderIn P s < P .nodes .0) × (own P (senderIn P s) ≡ s)
   sender-sends s h =
@@ -53,25 +53,25 @@ module _ (P : Plan) (o : Sound P) where
   pub widest : Widest (widestNode P) (widestFrom P)
   unfolding gapOf distanceBefore widestFrom widestNode predecessorAt
   widest =
-      let w = largest-reached (P .nodes .0) (distanceFor P) (omega (arith, o .nodes-low)) in
+      let w = largest-reached (P .nodes .0) (distanceFor P) (omega (arith, S .nodes-low)) in
       let at : predecessorAt P (gapOf P) (w .at) ≡ predecessor P (own P (w .at)) = rw (eq-eqb (distanceFor P (w .at)) (gapOf P) (w .value)) in
       let low = least-under (P .frame .0) (P .nodes .0) (predecessorAt P (gapOf P)) (w .at) (w .below) in
-      let within = before-own P o (w .at) (w .below) .within in
+      let within = before-own P S (w .at) (w .below) .within in
       let l = least-reached (P .frame .0) (P .nodes .0) (predecessorAt P (gapOf P)) (w .at) (w .below) (omega arith) in
       let f = first-passes (P .nodes .0) (l .at) (λ i. eqb (predecessorAt P (gapOf P) i) (widestFrom P)) (l .below) (eq-eqb (predecessorAt P (gapOf P) (l .at)) (widestFrom P) (l .value)) in
       widest-by (widestFrom P) (widestNode P) (omega arith) (f .0) (eqb-true (predecessorAt P (gapOf P) (widestNode P)) (widestFrom P) (f .1))
 
   -- p of rules 1 and 2 is a sending slot, b is the first to send after it, and that M slots later
   widest-before : Before P (widestNode P) (widestFrom P)
-  widest-before = let z : predecessor P (own P (widestNode P)) ≡ widestFrom P = widest .from in rw z at (before-own P o (widestNode P) (widest .below))
+  widest-before = let z : predecessor P (own P (widestNode P)) ≡ widestFrom P = widest .from in rw z at (before-own P S (widestNode P) (widest .below))
 
-  module _ (c : Parts) (R : Roles P c) (e : c .p .0 ≡ widestFrom P) where
-    widest-far : farOf P c (widestNode P) ≡ gapOf P
+  module _ (parts : Parts) (R : Roles P parts) (e : parts .p .0 ≡ widestFrom P) where
+    widest-far : farOf P parts (widestNode P) ≡ gapOf P
     widest-far = rw e (widest-before .away ∙ widest .gap)
 
-    widest-near : (j : ℕ) → j < P .nodes .0 → own P j ≢ c .p .0 → farOf P c (widestNode P) ≤ farOf P c j
+    widest-near : (j : ℕ) → j < P .nodes .0 → own P j ≢ parts .p .0 → farOf P parts (widestNode P) ≤ farOf P parts j
     widest-near j l n =
-        let z : 1 ≤ distance (P .frame .0) (widestFrom P) (own P j) = rw e at (far-away o R j l n) in
+        let z : 1 ≤ distance (P .frame .0) (widestFrom P) (own P j) = rw e at (far-away R j l n) in
         rw (e, widest-before .away) (widest-before .next .near j l z)
 
   silent-away : (s i : ℕ) → silentIn P s i ≡ true → own P i ≢ s
@@ -79,29 +79,29 @@ module _ (P : Plan) (o : Sound P) where
 
   -- parts with p a sending slot and a fast node that doesn't send in it
   roles-with : (p fast : ℕ) → sends P p ≡ true → fast < P .nodes .0 → own P fast ≢ p → Roles P (partsWith P p fast)
-  roles-with p fast s l n = let w = sender-sends p s in record { sender-below = w .0; sender-own = w .1; fast-below = l; fast-away = n }
+  roles-with p fast s l n = let w = sender-sends p s in record { sound = S; sender-below = w .0; sender-own = w .1; fast-below = l; fast-away = n }
 
-  pub record Cast (c : Parts) : Type 0 where
-    pub roles : Roles P c
-    pub failure : Failure P c
+  pub record Cast (parts : Parts) : Type 0 where
+    pub roles : Roles P parts
+    pub failure : Failure P parts
 
   pub cast : (rule : Rule) → verdictOf P .outcome ≡ Fails rule → Cast (partsFor P rule)
   unfolding verdictOf verdictAt sidesAt partsFor
   cast One h =
       let R = roles-with (widestFrom P) (widestNode P) (widest-before .sending) (widest .below) (λ e. widest-before .other (sym e)) in
-      let r = one-fails (P .ticks .0) (P .guard .0) (P .min .0) (P .max .0) (gapOf P) (gap-low P o) (o .guard-low) (omega (arith, o .guard-tail)) (named (sidesAt P (gapOf P)) One h) in
+      let r = one-fails (P .ticks .0) (P .guard .0) (P .min .0) (P .max .0) (gapOf P) (gap-low P S) (S .guard-low) (omega (arith, S .guard-tail)) (named (sidesAt P (gapOf P)) One h) in
       record { roles = R; failure = one (record { near = widest-near (partsFor P One) R refl; rule = rw (widest-far (partsFor P One) R refl) r }) }
   cast Two h =
       let p = widestFrom P in
       let b = widestNode P in
-      let t = third P o p (own P b) in
+      let t = third P S p (own P b) in
       let test : ℕ → Bool = λ i. silentIn P p i && silentIn P (own P b) i in
       let f = first-passes (P .nodes .0) (t .by) test (t .below) (rw (ne-eqb (own P (t .by)) p (t .not-first), ne-eqb (own P (t .by)) (own P b) (t .not-second))) in
       let i = firstBelow (P .nodes .0) test in
       let off-p = silent-away p i (and-true-left (silentIn P p i) (silentIn P (own P b) i) (f .1)) in
       let off-s = silent-away (own P b) i (and-true-right (silentIn P p i) (silentIn P (own P b) i) (f .1)) in
       let R = roles-with p i (widest-before .sending) (f .0) off-p in
-      let r = two-fails (P .ticks .0) (P .guard .0) (P .min .0) (P .max .0) (gapOf P) (omega (arith, o .guard-tail)) (named (sidesAt P (gapOf P)) Two h) in
+      let r = two-fails (P .ticks .0) (P .guard .0) (P .min .0) (P .max .0) (gapOf P) (omega (arith, S .guard-tail)) (named (sidesAt P (gapOf P)) Two h) in
       record {
         roles = R;
         failure =
@@ -114,8 +114,8 @@ module _ (P : Plan) (o : Sound P) where
             });
       }
   cast Three h =
-      let t = other P o 0 in
+      let t = other P S 0 in
       let f = first-passes (P .nodes .0) (t .by) (silentIn P 0) (t .below) (rw (ne-eqb (own P (t .by)) 0 (t .silent))) in
       let i = firstBelow (P .nodes .0) (silentIn P 0) in
-      let r = three-fails (P .ticks .0) (P .guard .0) (P .min .0) (P .max .0) (P .tail .0) (o .guard-tail) (named (sidesAt P (gapOf P)) Three h) in
-      record { roles = roles-with 0 i (o .slot-0-sends) (f .0) (silent-away 0 i (f .1)); failure = three (record { rule = r }) }
+      let r = three-fails (P .ticks .0) (P .guard .0) (P .min .0) (P .max .0) (P .tail .0) (S .guard-tail) (named (sidesAt P (gapOf P)) Three h) in
+      record { roles = roles-with 0 i (S .slot-0-sends) (f .0) (silent-away 0 i (f .1)); failure = three (record { rule = r }) }

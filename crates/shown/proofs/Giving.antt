@@ -17,18 +17,18 @@ use Rattle.shown.specs.declared.Next.the-variants.{Takes, Finished}
 use Rattle.shown.specs.Parts.{partsFor}
 use Rattle.shown.specs.Shown.{pastDue, nextStep, placeAfter, stays, givenBy, givenFor, givenOf}
 
-module _ (P : Plan) (c : Parts) (q : Place) where
-  pub given-stops : outOfStep P (q .run) ≡ true → givenBy P c q ≡ stays Finished q
+module _ (P : Plan) (parts : Parts) (q : Place) where
+  pub given-stops : outOfStep P (q .run) ≡ true → givenBy P parts q ≡ stays Finished q
   unfolding givenBy
-  given-stops e = rw (or-true-left (outOfStep P (q .run)) (pastDue P c q) e)
+  given-stops e = rw (or-true-left (outOfStep P (q .run)) (pastDue P parts q) e)
 
-  pub given-late : pastDue P c q ≡ true → givenBy P c q ≡ stays Finished q
+  pub given-late : pastDue P parts q ≡ true → givenBy P parts q ≡ stays Finished q
   unfolding givenBy
-  given-late e = rw (or-true-right (outOfStep P (q .run)) (pastDue P c q) e)
+  given-late e = rw (or-true-right (outOfStep P (q .run)) (pastDue P parts q) e)
 
-  pub given-takes : (s : Step) → nextStep P c q ≡ s → outOfStep P (q .run) ≡ false → pastDue P c q ≡ false → stepNumber P (q .run) s ≡ 0 → givenBy P c q ≡ record { next = Takes s; place = placeAfter P c q s }
+  pub given-takes : (s : Step) → nextStep P parts q ≡ s → outOfStep P (q .run) ≡ false → pastDue P parts q ≡ false → stepNumber P (q .run) s ≡ 0 → givenBy P parts q ≡ record { next = Takes s; place = placeAfter P parts q s }
   unfolding givenBy
-  given-takes s e t d l = rw (or-neither (outOfStep P (q .run)) (pastDue P c q) t d, e, eq-eqb (stepNumber P (q .run) s) 0 l)
+  given-takes s e t d l = rw (or-neither (outOfStep P (q .run)) (pastDue P parts q) t d, e, eq-eqb (stepNumber P (q .run) s) 0 l)
 
 -- what is given out goes by the parts of the failed rule
 pub given-is : (P : Plan) (rule : Rule) → planNumber P ≡ 0 → verdictOf P .outcome ≡ Fails rule → (q : Place) → inRange P (q .run) ≡ true

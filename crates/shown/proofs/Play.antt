@@ -1,14 +1,15 @@
 -- Which step of the shown run is next, and why: where no time is past due, it is legal.
 use Prim.Native.Nat.{ℕ, _+_, _-_, _≤_, _<_}
 use mathlib.Core.Path.{_≡_}
-use mathlib.Core.Bool.{Bool, true, false, _&&_}
+use mathlib.Core.Bool.{Bool, true, false, cond, _&&_}
 use native.Mathlib.Omega.{arith}
 use borrow.Author.Tests.{ltb-true, ltb-false, eqb-true, eqb-false, le-ltb, eq-eqb}
 use lib.Dec.{eqb, ltb}
 use Rattle.laws.specs.Below.{firstBelow}
-use Rattle.laws.proofs.Bools.{and-true-left, and-true-right, cond-by}
+use Rattle.laws.proofs.Bools.{clash, and-true-left, and-true-right, Either, first-holds, second-holds, cond-by}
 use Rattle.laws.proofs.Belows.{any-not, any-never, least-under, least-reached, first-is, first-is-none}
 use Rattle.plan.specs.declared.Plan.{Plan}
+use Rattle.plan.specs.declared.Node.{Node}
 use Rattle.plan.specs.Tested.{Sound}
 use Rattle.run.specs.declared.Step.{Step}
 use Rattle.run.specs.declared.Step.the-variants.{Delay, TickOf, SendOf}
@@ -19,36 +20,47 @@ use Rattle.shown.specs.declared.Mark.{Mark}
 use Rattle.shown.specs.declared.Mark.the-variants.{Before, In, After}
 use Rattle.shown.specs.declared.Place.{Place}
 use Rattle.shown.specs.declared.Parts.{Parts}
-use Rattle.shown.specs.Shown.{dueTime, isDue, pastDue, goesFirst, goesSecond, lowestAbout, lowestFirst, lowestSecond, lowestDue, timeToDue, nextStep}
+use Rattle.shown.specs.Shown.{dueTime, isDue, pastDue, goesFirst, goesSecond, timeToDue, nextStep}
 
 -- nobody is about to send
 abbrev pub Quiet : Plan → Place → Type 0
 Quiet P q = (i : ℕ) → i < P .nodes .0 → isAbout (node (q .run) i .mode) ≡ false
 
-module _ (P : Plan) (c : Parts) (q : Place) where
+module _ (P : Plan) (parts : Parts) (q : Place) where
   -- no time is past due
   abbrev pub OnTime : Type 0
-  OnTime = (i : ℕ) → i < P .nodes .0 → node (q .run) i .time .0 ≤ dueTime P c (q .mark) i
+  OnTime = (i : ℕ) → i < P .nodes .0 → node (q .run) i .time .0 ≤ dueTime P parts (q .mark) i
 
   -- node i is due
   abbrev pub Due : ℕ → Type 0
-  Due i = node (q .run) i .time .0 ≡ dueTime P c (q .mark) i
+  Due i = node (q .run) i .time .0 ≡ dueTime P parts (q .mark) i
 
-  pub due-is : (i : ℕ) → isDue P c q i ≡ true → Due i
-  due-is i e = eqb-true (node (q .run) i .time .0) (dueTime P c (q .mark) i) e
+  pub due-is : (i : ℕ) → isDue P parts q i ≡ true → Due i
+  due-is i e = eqb-true (node (q .run) i .time .0) (dueTime P parts (q .mark) i) e
 
   -- nobody who is due goes first, or next
   abbrev pub NoneFirst : Type 0
-  NoneFirst = (j : ℕ) → j < P .nodes .0 → Due j → goesFirst P c (q .run) (q .mark) j ≡ false
+  NoneFirst = (j : ℕ) → j < P .nodes .0 → Due j → goesFirst P parts (q .run) (q .mark) j ≡ false
 
   abbrev pub NoneSecond : Type 0
-  NoneSecond = (j : ℕ) → j < P .nodes .0 → Due j → goesSecond c (q .mark) j ≡ false
+  NoneSecond = (j : ℕ) → j < P .nodes .0 → Due j → goesSecond parts (q .mark) j ≡ false
 
   -- why node i ticks and none of the others that are due
   pub data Turn (i : ℕ) : Type 0 where
-    goes-first : goesFirst P c (q .run) (q .mark) i ≡ true → Turn i
-    goes-second : NoneFirst → goesSecond c (q .mark) i ≡ true → Turn i
+    goes-first : goesFirst P parts (q .run) (q .mark) i ≡ true → Turn i
+    goes-second : NoneFirst → goesSecond parts (q .mark) i ≡ true → Turn i
     goes-third : NoneFirst → NoneSecond → Turn i
+
+  -- where one who is due goes first, or next, so does the node that ticks
+  pub turn-first : {i : ℕ} → Turn i → (j : ℕ) → j < P .nodes .0 → Due j → goesFirst P parts (q .run) (q .mark) j ≡ true → goesFirst P parts (q .run) (q .mark) i ≡ true
+  turn-first (goes-first h) j l d e = h
+  turn-first (goes-second n h) j l d e = clash (goesFirst P parts (q .run) (q .mark) j) e (n j l d)
+  turn-first (goes-third n m) j l d e = clash (goesFirst P parts (q .run) (q .mark) j) e (n j l d)
+
+  pub turn-second : {i : ℕ} → Turn i → (j : ℕ) → j < P .nodes .0 → Due j → goesSecond parts (q .mark) j ≡ true → Either (goesFirst P parts (q .run) (q .mark) i) (goesSecond parts (q .mark) i)
+  turn-second (goes-first h) j l d e = first-holds h
+  turn-second (goes-second n h) j l d e = second-holds h
+  turn-second (goes-third n m) j l d e = clash (goesSecond parts (q .mark) j) e (m j l d)
 
   pub record SendMove (i : ℕ) : Type 0 where
     pub below : i < P .nodes .0
@@ -63,11 +75,11 @@ module _ (P : Plan) (c : Parts) (q : Place) where
   pub record DelayMove (d : ℕ) : Type 0 where
     pub some : 1 ≤ d
     pub quiet : Quiet P q
-    pub early : (i : ℕ) → i < P .nodes .0 → node (q .run) i .time .0 < dueTime P c (q .mark) i
-    pub within : (i : ℕ) → i < P .nodes .0 → node (q .run) i .time .0 + d ≤ dueTime P c (q .mark) i
+    pub early : (i : ℕ) → i < P .nodes .0 → node (q .run) i .time .0 < dueTime P parts (q .mark) i
+    pub within : (i : ℕ) → i < P .nodes .0 → node (q .run) i .time .0 + d ≤ dueTime P parts (q .mark) i
     pub to : ℕ
     pub to-below : to < P .nodes .0
-    pub to-due : node (q .run) to .time .0 + d ≡ dueTime P c (q .mark) to
+    pub to-due : node (q .run) to .time .0 + d ≡ dueTime P parts (q .mark) to
 
   -- what is known of the next step, by its kind
   abbrev pub Move : Step → Type 0
@@ -76,74 +88,67 @@ module _ (P : Plan) (c : Parts) (q : Place) where
   Move (SendOf i) = SendMove (i .0)
 
 -- due times lie between min and max
-pub due-high : (P : Plan) (c : Parts) → Sound P → (k : Mark) (i : ℕ) → dueTime P c k i ≤ P .max .0
+pub due-high : (P : Plan) (parts : Parts) → Sound P → (k : Mark) (i : ℕ) → dueTime P parts k i ≤ P .max .0
 unfolding dueTime
-due-high P c o Before i = o .min-max
-due-high P c o In i = o .min-max
-due-high P c o After i = cond-by (λ (x : ℕ). x ≤ P .max .0) (eqb i (c .fast .0)) (P .min .0) (P .max .0) (λ e. o .min-max) (λ e. omega arith)
+due-high P parts S Before i = S .min-max
+due-high P parts S In i = S .min-max
+due-high P parts S After i = cond-by (λ (x : ℕ). x ≤ P .max .0) (eqb i (parts .fast .0)) (P .min .0) (P .max .0) (λ e. S .min-max) (λ e. omega arith)
 
-pub due-low : (P : Plan) (c : Parts) → Sound P → (k : Mark) (i : ℕ) → P .min .0 ≤ dueTime P c k i
+pub due-low : (P : Plan) (parts : Parts) → Sound P → (k : Mark) (i : ℕ) → P .min .0 ≤ dueTime P parts k i
 unfolding dueTime
-due-low P c o Before i = omega arith
-due-low P c o In i = omega arith
-due-low P c o After i = cond-by (λ (x : ℕ). P .min .0 ≤ x) (eqb i (c .fast .0)) (P .min .0) (P .max .0) (λ e. omega arith) (λ e. o .min-max)
+due-low P parts S Before i = omega arith
+due-low P parts S In i = omega arith
+due-low P parts S After i = cond-by (λ (x : ℕ). P .min .0 ≤ x) (eqb i (parts .fast .0)) (P .min .0) (P .max .0) (λ e. omega arith) (λ e. S .min-max)
 
-module _ (P : Plan) (c : Parts) (o : Sound P) (q : Place) where
-  pub on-time : OnTime P c q → pastDue P c q ≡ false
+module _ (P : Plan) (parts : Parts) (S : Sound P) (q : Place) where
+  pub on-time : OnTime P parts q → pastDue P parts q ≡ false
   unfolding pastDue
   on-time t =
-      any-never (P .nodes .0) (λ i. ltb (dueTime P c (q .mark) i) (node (q .run) i .time .0))
-      (λ i l. le-ltb (dueTime P c (q .mark) i) (node (q .run) i .time .0) (t i l))
+      any-never (P .nodes .0) (λ i. ltb (dueTime P parts (q .mark) i) (node (q .run) i .time .0))
+      (λ i l. le-ltb (dueTime P parts (q .mark) i) (node (q .run) i .time .0) (t i l))
 
-  pub not-late : pastDue P c q ≡ false → OnTime P c q
+  pub not-late : pastDue P parts q ≡ false → OnTime P parts q
   unfolding pastDue
   not-late h i l =
-      ltb-false (dueTime P c (q .mark) i) (node (q .run) i .time .0)
-      (any-not (P .nodes .0) (λ i. ltb (dueTime P c (q .mark) i) (node (q .run) i .time .0)) h i l)
+      ltb-false (dueTime P parts (q .mark) i) (node (q .run) i .time .0)
+      (any-not (P .nodes .0) (λ i. ltb (dueTime P parts (q .mark) i) (node (q .run) i .time .0)) h i l)
+
+  -- the lowest node that passes a test takes its step, or none passes
+  by-lowest : (test : ℕ → Bool) (take : Node → Step) (rest : Step) → ((i : ℕ) → i < P .nodes .0 → test i ≡ true → Move P parts q (take (record { 0 = i })))
+      → (((j : ℕ) → j < P .nodes .0 → test j ≡ false) → Move P parts q rest) → Move P parts q (cond (ltb (firstBelow (P .nodes .0) test) (P .nodes .0)) (take (record { 0 = firstBelow (P .nodes .0) test })) rest)
+  by-lowest test take rest f g =
+      let i = firstBelow (P .nodes .0) test in
+      cond-by (Move P parts q) (ltb i (P .nodes .0)) (take (record { 0 = i })) rest (λ e. f i (ltb-true i (P .nodes .0) e) (first-is (P .nodes .0) test e)) (λ e. g (first-is-none (P .nodes .0) test e))
 
   -- which step is next, and why
-  pub next-move : OnTime P c q → Move P c q (nextStep P c q)
+  pub next-move : OnTime P parts q → Move P parts q (nextStep P parts q)
   unfolding nextStep
   next-move t =
-      cond-by (Move P c q) (ltb (lowestAbout P q) (P .nodes .0)) _ _
-      (λ e. record { below = ltb-true (lowestAbout P q) (P .nodes .0) e; about = first-is (P .nodes .0) about e })
-      (λ e.
-      let a : Quiet P q = first-is-none (P .nodes .0) about e in
-      cond-by (Move P c q) (ltb (lowestFirst P c q) (P .nodes .0)) _ _ (λ e. tick first (λ i h. goes-first h) a e)
-      (λ e.
-      let n = none-of first (first-is-none (P .nodes .0) (λ i. isDue P c q i && first i) e) in
-      cond-by (Move P c q) (ltb (lowestSecond P c q) (P .nodes .0)) _ _ (λ e. tick second (λ i h. goes-second n h) a e)
-      (λ e.
-      let m = none-of second (first-is-none (P .nodes .0) (λ i. isDue P c q i && second i) e) in
-      cond-by (Move P c q) (ltb (lowestDue P c q) (P .nodes .0)) _ _
-      (λ e. record { below = ltb-true (lowestDue P c q) (P .nodes .0) e; quiet = a; due = due-is P c q (lowestDue P c q) (first-is (P .nodes .0) (isDue P c q) e); turn = goes-third n m })
-      (λ e. wait a (first-is-none (P .nodes .0) (isDue P c q) e)))))
+      by-lowest (λ i. isAbout (node (q .run) i .mode)) SendOf _ (λ i l e. record { below = l; about = e }) (λ a.
+      by-lowest (λ i. isDue P parts q i && first i) TickOf _ (tick a first (λ i h. goes-first h)) (λ no-first.
+      let n = none-of first no-first in
+      by-lowest (λ i. isDue P parts q i && second i) TickOf _ (tick a second (λ i h. goes-second n h)) (λ no-second.
+      let m = none-of second no-second in
+      by-lowest (isDue P parts q) TickOf _ (λ i l e. record { below = l; quiet = a; due = due-is P parts q i e; turn = goes-third n m }) (wait a))))
     where
-      about : ℕ → Bool
-      about i = isAbout (node (q .run) i .mode)
-
       first : ℕ → Bool
-      first i = goesFirst P c (q .run) (q .mark) i
+      first i = goesFirst P parts (q .run) (q .mark) i
 
       second : ℕ → Bool
-      second i = goesSecond c (q .mark) i
+      second i = goesSecond parts (q .mark) i
 
-      none-of : (f : ℕ → Bool) → ((j : ℕ) → j < P .nodes .0 → (isDue P c q j && f j) ≡ false) → (j : ℕ) → j < P .nodes .0 → Due P c q j → f j ≡ false
-      none-of f h j l d = rw (eq-eqb (node (q .run) j .time .0) (dueTime P c (q .mark) j) d) at (h j l)
+      none-of : (f : ℕ → Bool) → ((j : ℕ) → j < P .nodes .0 → (isDue P parts q j && f j) ≡ false) → (j : ℕ) → j < P .nodes .0 → Due P parts q j → f j ≡ false
+      none-of f h j l d = rw (eq-eqb (node (q .run) j .time .0) (dueTime P parts (q .mark) j) d) at (h j l)
 
-      tick : (f : ℕ → Bool) → ((i : ℕ) → f i ≡ true → Turn P c q i) → Quiet P q → ltb (firstBelow (P .nodes .0) (λ i. isDue P c q i && f i)) (P .nodes .0) ≡ true
-          → TickMove P c q (firstBelow (P .nodes .0) (λ i. isDue P c q i && f i))
-      tick f turn a e =
-          let i = firstBelow (P .nodes .0) (λ i. isDue P c q i && f i) in
-          let both = first-is (P .nodes .0) (λ i. isDue P c q i && f i) e in
-          record { below = ltb-true i (P .nodes .0) e; quiet = a; due = due-is P c q i (and-true-left (isDue P c q i) (f i) both); turn = turn i (and-true-right (isDue P c q i) (f i) both) }
+      tick : Quiet P q → (f : ℕ → Bool) → ((i : ℕ) → f i ≡ true → Turn P parts q i) → (i : ℕ) → i < P .nodes .0 → (isDue P parts q i && f i) ≡ true → TickMove P parts q i
+      tick a f turn i l e = record { below = l; quiet = a; due = due-is P parts q i (and-true-left (isDue P parts q i) (f i) e); turn = turn i (and-true-right (isDue P parts q i) (f i) e) }
 
-      wait : Quiet P q → ((j : ℕ) → j < P .nodes .0 → isDue P c q j ≡ false) → DelayMove P c q (timeToDue P c q)
+      wait : Quiet P q → ((j : ℕ) → j < P .nodes .0 → isDue P parts q j ≡ false) → DelayMove P parts q (timeToDue P parts q)
       wait a none-due =
-          let early : (i : ℕ) → i < P .nodes .0 → node (q .run) i .time .0 < dueTime P c (q .mark) i =
-          λ i l. omega (arith, t i l, eqb-false (node (q .run) i .time .0) (dueTime P c (q .mark) i) (none-due i l)) in
-          let left : ℕ → ℕ = λ i. dueTime P c (q .mark) i - node (q .run) i .time .0 in
-          let least = least-reached (P .max .0) (P .nodes .0) left 0 (omega (arith, o .nodes-low)) (omega (arith, due-high P c o (q .mark) 0)) in
+          let early : (i : ℕ) → i < P .nodes .0 → node (q .run) i .time .0 < dueTime P parts (q .mark) i =
+          λ i l. omega (arith, t i l, eqb-false (node (q .run) i .time .0) (dueTime P parts (q .mark) i) (none-due i l)) in
+          let left : ℕ → ℕ = λ i. dueTime P parts (q .mark) i - node (q .run) i .time .0 in
+          let least = least-reached (P .max .0) (P .nodes .0) left 0 (omega (arith, S .nodes-low)) (omega (arith, due-high P parts S (q .mark) 0)) in
           record {
             some = omega (arith, early (least .at) (least .below), least .value);
             quiet = a;
@@ -155,13 +160,13 @@ module _ (P : Plan) (c : Parts) (o : Sound P) (q : Place) where
           }
 
   -- and it is legal
-  pub move-legal : (s : Step) → inRange P (q .run) ≡ true → outOfStep P (q .run) ≡ false → Move P c q s → StepLegal P (q .run) s
+  pub move-legal : (s : Step) → inRange P (q .run) ≡ true → outOfStep P (q .run) ≡ false → Move P parts q s → StepLegal P (q .run) s
   move-legal s r e m = record { range = r; together = e; kind = kind s m }
     where
-      kind : (s : Step) → Move P c q s → KindLegal P (q .run) s
-      kind (Delay d) m = record { some = m .some; none-about = m .quiet; within = λ i l. omega (arith, m .within i l, due-high P c o (q .mark) i) }
-      kind (TickOf i) m = record { below = m .below; ripe = omega (arith, m .due, due-low P c o (q .mark) (i .0)) }
+      kind : (s : Step) → Move P parts q s → KindLegal P (q .run) s
+      kind (Delay d) m = record { some = m .some; none-about = m .quiet; within = λ i l. omega (arith, m .within i l, due-high P parts S (q .mark) i) }
+      kind (TickOf i) m = record { below = m .below; ripe = omega (arith, m .due, due-low P parts S (q .mark) (i .0)) }
       kind (SendOf i) m = record { below = m .below; about = m .about }
 
-  pub next-legal : inRange P (q .run) ≡ true → outOfStep P (q .run) ≡ false → pastDue P c q ≡ false → stepNumber P (q .run) (nextStep P c q) ≡ 0
-  next-legal r e h = step-legal P (q .run) (nextStep P c q) (move-legal (nextStep P c q) r e (next-move (not-late h)))
+  pub next-legal : inRange P (q .run) ≡ true → outOfStep P (q .run) ≡ false → pastDue P parts q ≡ false → stepNumber P (q .run) (nextStep P parts q) ≡ 0
+  next-legal r e h = step-legal P (q .run) (nextStep P parts q) (move-legal (nextStep P parts q) r e (next-move (not-late h)))

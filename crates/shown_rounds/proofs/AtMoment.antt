@@ -27,10 +27,11 @@ use Rattle.shown.specs.declared.Place.{Place}
 use Rattle.shown.specs.declared.Parts.{Parts}
 use Rattle.shown.specs.Shown.{dueTime, turns, goesFirst, goesSecond, timeToDue, nextStep, markAfter, givenBy, givenOf}
 use Rattle.shown.proofs.Play.{Quiet, OnTime, Due, due-low}
-use Rattle.shows_why.proofs.Progress.{Kept, all-ticked, all-delayed, all-sent}
+use Rattle.shows_why.proofs.Progress.{Kept, all-counted}
+use Rattle.run.proofs.EveryNode.{all-delayed, all-sent}
 use Rattle.shown.proofs.Roles.{Roles}
 use Rattle.shows_why.proofs.Rounds.{about-ticked}
-use Rattle.shows_why.proofs.Wall.{later, due-fast, due-slow}
+use Rattle.shows_why.proofs.AfterPivot.{later, due-fast, due-slow}
 use Rattle.shown_rounds.specs.Rounds.{ticks, ticksAndSends, inOrder}
 use Rattle.shown_rounds.specs.Moments.{toNearest, acts, atMoment, nextMoment, moments}
 use Rattle.shown_rounds.proofs.Next.{next-wait, next-send, next-first, next-second}
@@ -103,7 +104,7 @@ module _ {P : Plan} {c : Parts} (o : Sound P) (R : Roles P c) (plain : planNumbe
 
       nodes-after : (k : ℕ) → k < P .nodes .0 → AtTime P c y (turns P r k) (due′ k) k (node (ticked P i now) k)
       nodes-after =
-          all-ticked P now (s .kept .room) (λ k a v. AtTime P c y (turns P r k) (due′ k) k a) (λ k. 0) i below
+          all-counted P now (s .kept .room) (λ k a v. AtTime P c y (turns P r k) (due′ k) k a) (λ k. 0) i below
           (rw e′ (sym (mine .moment)))
           (λ k l d. rw (same k d) (s .nodes k l))
 

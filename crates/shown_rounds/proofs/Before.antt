@@ -25,10 +25,11 @@ use Rattle.shown.specs.declared.Place.{Place}
 use Rattle.shown.specs.declared.Parts.{Parts}
 use Rattle.shown.specs.Shown.{turns, goesFirst, goesSecond, nextStep, markAfter, timeToDue, givenBy, givenOf}
 use Rattle.shown.proofs.Play.{Quiet}
-use Rattle.shows_why.proofs.Progress.{Kept, bump, all-ticked, all-delayed, all-sent}
+use Rattle.shows_why.proofs.Progress.{setting, Kept, bump, all-counted}
+use Rattle.run.proofs.EveryNode.{all-delayed, all-sent}
 use Rattle.shown.proofs.Roles.{Roles}
-use Rattle.shows_why.proofs.Rounds.{earlier, pivotCount, Early, due-before, early-done, about-ticked, early-on-time, early-send, early-tick, delay-is-min}
-use Rattle.shows_why.proofs.Dawn.{pivot-not, early-delay}
+use Rattle.shows_why.proofs.Rounds.{earlier, pivotCount, BeforePivot, due-before, early-done, about-ticked, before-pivot-on-time, before-pivot-send, before-pivot-tick, before-pivot-delay, delay-is-min}
+use Rattle.shows_why.proofs.BeforeMessage.{pivot-not}
 use Rattle.shown_rounds.specs.Rounds.{ticks, ticksAndSends, inOrder, roundBefore}
 use Rattle.shown_rounds.proofs.Next.{next-wait, next-send, next-first, next-second}
 use Rattle.shown_rounds.proofs.Plays.{Leads, leads-then, leads-nowhere, Taken, takes-then, takes}
@@ -54,7 +55,7 @@ OfRound P T b false k a v = Had T a v
 pub record Rest (P : Plan) (c : Parts) (T : ℕ) (r : Run) : Type 0 where
   pub counts : ℕ → ℕ
   pub kept : Kept P r
-  pub early : Early P c r counts
+  pub early : BeforePivot P c r counts
   pub quiet : Quiet P (earlier r)
   pub nodes : (k : ℕ) → k < P .nodes .0 → Had T (node r k) (counts k)
 
@@ -62,7 +63,7 @@ pub record Rest (P : Plan) (c : Parts) (T : ℕ) (r : Run) : Type 0 where
 pub record Stage (P : Plan) (c : Parts) (T : ℕ) (r : Run) (due : ℕ → Bool) (now : Run) : Type 0 where
   pub counts : ℕ → ℕ
   pub kept : Kept P now
-  pub early : Early P c now counts
+  pub early : BeforePivot P c now counts
   pub quiet : Quiet P (earlier now)
   pub nodes : (k : ℕ) → k < P .nodes .0 → OfRound P T (turns P r k) (due k) k (node now k) (counts k)
 
@@ -82,8 +83,8 @@ module _ {P : Plan} {c : Parts} (o : Sound P) (R : Roles P c) (plain : planNumbe
   hears T b false k a v h = record { time = h .time; count = h .count }
 
   -- before the pivot a step that is next is taken
-  takes-early : (r : Run) (n : ℕ → ℕ) (s : Step) → Kept P r → Early P c r n → nextStep P c (earlier r) ≡ s → Taken P c (earlier r) s
-  takes-early r n s k E = takes P c o plain by-parts (earlier r) s k (early-on-time o R (k .room) E) (round-in-step o (E .number) r n (E .round))
+  takes-early : (r : Run) (n : ℕ → ℕ) (s : Step) → Kept P r → BeforePivot P c r n → nextStep P c (earlier r) ≡ s → Taken P c (earlier r) s
+  takes-early r n s k E = takes P c o plain by-parts (earlier r) s k (before-pivot-on-time (setting R k) E) (round-in-step o (E .number) r n (E .round))
 
   module _ (T : ℕ) (r : Run) where
     -- others are due than before, but the same of the nodes
@@ -108,7 +109,7 @@ module _ {P : Plan} {c : Parts} (o : Sound P) (R : Roles P c) (plain : planNumbe
         ticks-on : (due′ : ℕ → Bool) → due′ i ≡ false → ((k : ℕ) → k ≢ i → due′ k ≡ due k)
             → (k : ℕ) → k < P .nodes .0 → OfRound P T (turns P r k) (due′ k) k (node (ticked P i now) k) (bump (s .counts) i k)
         ticks-on due′ q same =
-            all-ticked P now (s .kept .room) (λ k a v. OfRound P T (turns P r k) (due′ k) k a v) (s .counts) i below
+            all-counted P now (s .kept .room) (λ k a v. OfRound P T (turns P r k) (due′ k) k a v) (s .counts) i below
             (rw q (record { time = refl; count = omega (arith, mine .count) }))
             (λ k l d. rw (same k d) (s .nodes k l))
 
@@ -124,7 +125,7 @@ module _ {P : Plan} {c : Parts} (o : Sound P) (R : Roles P c) (plain : planNumbe
           holds = record {
             counts = bump (s .counts) i;
             kept = taken .kept;
-            early = early-tick o R (s .kept .room) (s .early) i (taken .move);
+            early = before-pivot-tick (setting R (s .kept)) (s .early) i (taken .move);
             quiet = λ k l. not-so (isAbout (node (ticked P i now) k .mode)) (λ e. clash (turns P now i) (about-ticked P now i k (omega (arith, below, s .kept .room)) (s .quiet k l) e .1) (own-turn .turning ∙ silent));
             nodes = ticks-on (dueFirst P r i) now s i below is-due (dueFirst P r (suc i)) (rw (silent, from-next i)) (λ k d. rw (from-other i k d));
           };
@@ -187,7 +188,7 @@ module _ {P : Plan} {c : Parts} (o : Sound P) (R : Roles P c) (plain : planNumbe
           holds = record {
             counts = bump (s .counts) i;
             kept = sends .kept;
-            early = early-send o R (taken .kept .room) early i (sends .move);
+            early = before-pivot-send (setting R (taken .kept)) early i (sends .move);
             quiet = all-sent P (ticked P i now) (taken .kept .room) (λ k a. isAbout (a .mode) ≡ false) i below refl (λ k l d. others k l d);
             nodes = all-sent P (ticked P i now) (taken .kept .room) (λ k a. OfRound P T (turns P r k) (dueSecond P r (suc i) k) k a (bump (s .counts) i k)) i below
                 (sent-node (dueSecond P r (suc i) i) (rw (f, from-next i)) (nodes i below))
@@ -214,8 +215,8 @@ module _ {P : Plan} {c : Parts} (o : Sound P) (R : Roles P c) (plain : planNumbe
             (λ k l e. let z = still k l (e ∙ due-before P c k) in ap not (z .2 ∙ z .0)) refl
             (λ k l e. clash (leb i k) (still k (omega (arith, below)) (e ∙ due-before P c k) .1) (lt-leb i k l)))
 
-        early : Early P c (ticked P i now) (bump (s .counts) i)
-        early = early-tick o R (s .kept .room) (s .early) i (taken .move)
+        early : BeforePivot P c (ticked P i now) (bump (s .counts) i)
+        early = before-pivot-tick (setting R (s .kept)) (s .early) i (taken .move)
 
         about : isAbout (node (ticked P i now) i .mode) ≡ true
         about = ap (λ (a : NodeState). isAbout (a .mode)) (node-ticked P now i (omega (arith, below, s .kept .room))) ∙ own-turn .turning ∙ f
@@ -277,13 +278,13 @@ module _ {P : Plan} {c : Parts} (o : Sound P) (R : Roles P c) (plain : planNumbe
         let d : Time = record { 0 = timeToDue P c (earlier r) } in
         let first = takes-early r (s .counts) (Delay d) (s .kept) (s .early) next in
         takes-early r (s .counts) (Delay (P .min)) (s .kept) (s .early)
-        (next ∙ ap (λ (n : ℕ). Delay (record { 0 = n })) (delay-is-min o R (s .kept .room) (s .early) (timeToDue P c (earlier r)) (first .move)))
+        (next ∙ ap (λ (n : ℕ). Delay (record { 0 = n })) (delay-is-min (setting R (s .kept)) (s .early) (timeToDue P c (earlier r)) (first .move)))
 
     pub round-before : T + 1 ≢ pivotCount P c → Leads P (earlier r) (roundBefore P r) Before (Rest P c (T + 1))
     unfolding roundBefore markAfter
     round-before n =
         takes-then P c (earlier r) (Delay (P .min)) _ Before (Rest P c (T + 1)) waits-min
-        (rw (pivot-not o R (s .kept .room) (s .early) (P .min .0) (waits-min .move) other)
+        (rw (pivot-not (setting R (s .kept)) (s .early) (P .min .0) (waits-min .move) other)
         (leads-then P (first-pass (T + 1) r (delayed P (P .min .0) r) begun) (second-pass (T + 1) r)))
       where
         other : s .early .number + 1 ≢ pivotCount P c
@@ -294,7 +295,7 @@ module _ {P : Plan} {c : Parts} (o : Sound P) (R : Roles P c) (plain : planNumbe
             record {
               counts = s .counts;
               kept = waits-min .kept;
-              early = early-delay o R (s .kept .room) (s .early) (P .min .0) (waits-min .move) other;
+              early = before-pivot-delay (setting R (s .kept)) (s .early) (P .min .0) (waits-min .move) other;
               quiet = all-delayed P r (s .kept .room) (λ k a. isAbout (a .mode) ≡ false) (P .min .0) (s .quiet);
               nodes = all-delayed P r (s .kept .room) (λ k a. Lacks P (T + 1) (turns P r k) k a (s .counts k)) (P .min .0)
                   (λ k l. record { time = omega (arith, s .nodes k l .time); count = omega (arith, s .nodes k l .count); turning = refl });

@@ -27,12 +27,14 @@ use Rattle.shown.specs.declared.Place.{Place}
 use Rattle.shown.specs.declared.Parts.{Parts}
 use Rattle.shown.specs.Shown.{turns, goesFirst, goesSecond, nextStep, markAfter, givenBy, givenOf}
 use Rattle.shown.proofs.Play.{Quiet, Due}
-use Rattle.shows_why.proofs.Progress.{Kept, bump, bump-same, bump-other, all-ticked, all-delayed}
+use Rattle.shows_why.proofs.Progress.{setting, Kept, bump, bump-same, bump-other, all-counted}
+use Rattle.run.proofs.EveryNode.{all-delayed}
 use Rattle.shows_why.proofs.Stands.{busy-at-own}
 use Rattle.shown.proofs.Roles.{Roles, pivot-in-frame, sender-not-fast}
-use Rattle.shows_why.proofs.Wall.{later}
+use Rattle.shows_why.proofs.AfterPivot.{later}
 use Rattle.shows_why.proofs.Rounds.{earlier, pivotCount, due-lacks, about-ticked}
-use Rattle.shows_why.proofs.Dawn.{within, Eve, Dawn, due-in, pivot-is, eve-begins, eve-on-time, eve-tick, eve-send, dawn-on-time}
+use Rattle.shows_why.proofs.AfterMessage.{within, AfterMessage, due-in, after-message-on-time}
+use Rattle.shows_why.proofs.BeforeMessage.{BeforeMessage, pivot-is, pivot-begins, before-message-on-time, before-message-tick, before-message-send}
 use Rattle.shown_rounds.specs.Rounds.{ticks, ticksAndSends, inOrder, neither, pivotRound}
 use Rattle.shown_rounds.proofs.Next.{next-send, next-first, next-second, next-third}
 use Rattle.shown_rounds.proofs.Plays.{Leads, leads-then, leads-nowhere, Taken, takes-then, takes}
@@ -44,7 +46,7 @@ use Rattle.shown_rounds.proofs.Before.{Rest, rest-number, waits-min}
 record Waits (P : Plan) (c : Parts) (due : ℕ → Bool) (r : Run) : Type 0 where
   counts : ℕ → ℕ
   kept : Kept P r
-  eve : Eve P c r counts
+  eve : BeforeMessage P c r counts
   quiet : Quiet P (within r)
   times : (k : ℕ) → k < P .nodes .0 → node r k .time .0 ≡ cond (due k) (P .min .0) 0
 
@@ -52,7 +54,7 @@ record Waits (P : Plan) (c : Parts) (due : ℕ → Bool) (r : Run) : Type 0 wher
 record Spoken (P : Plan) (c : Parts) (r : Run) : Type 0 where
   counts : ℕ → ℕ
   kept : Kept P r
-  dawn : Dawn P c r counts
+  dawn : AfterMessage P c r counts
 
 -- who is due when node i's turn comes
 abbrev dueFrom : Parts → ℕ → ℕ → Bool
@@ -74,8 +76,8 @@ module _ {P : Plan} {c : Parts} (o : Sound P) (R : Roles P c) (plain : planNumbe
   not-neither-sender : neither c a ≡ false
   not-neither-sender = rw (eq-eqb a a refl, ne-eqb a f (sender-not-fast R))
 
-  takes-eve : (r : Run) (n : ℕ → ℕ) (s : Step) → Kept P r → Eve P c r n → nextStep P c (within r) ≡ s → Taken P c (within r) s
-  takes-eve r n s k E = takes P c o plain by-parts (within r) s k (eve-on-time o R (k .room) E) (round-in-step o (pivotCount P c) r n (E .round))
+  takes-eve : (r : Run) (n : ℕ → ℕ) (s : Step) → Kept P r → BeforeMessage P c r n → nextStep P c (within r) ≡ s → Taken P c (within r) s
+  takes-eve r n s k E = takes P c o plain by-parts (within r) s k (before-message-on-time (setting R k) E) (round-in-step o (pivotCount P c) r n (E .round))
 
   due-same : (due due′ : ℕ → Bool) (r : Run) → ((k : ℕ) → k < P .nodes .0 → due′ k ≡ due k) → Waits P c due r → Waits P c due′ r
   due-same due due′ r e s = record { counts = s .counts; kept = s .kept; eve = s .eve; quiet = s .quiet; times = λ k l. rw (e k l) (s .times k l) }
@@ -95,7 +97,7 @@ module _ {P : Plan} {c : Parts} (o : Sound P) (R : Roles P c) (plain : planNumbe
     ticks-on : (i : ℕ) → i < P .nodes .0 → (due′ : ℕ → Bool) → due′ i ≡ false → ((k : ℕ) → k ≢ i → due′ k ≡ due k)
         → (k : ℕ) → k < P .nodes .0 → node (ticked P i r) k .time .0 ≡ cond (due′ k) (P .min .0) 0
     ticks-on i below due′ q same =
-        all-ticked P r (s .kept .room) (λ k a v. a .time .0 ≡ cond (due′ k) (P .min .0) 0) (s .counts) i below (rw q) (λ k l d. rw (same k d) (s .times k l))
+        all-counted P r (s .kept .room) (λ k a v. a .time .0 ≡ cond (due′ k) (P .min .0) 0) (s .counts) i below (rw q) (λ k l d. rw (same k d) (s .times k l))
 
   -- the first pass
 
@@ -129,8 +131,8 @@ module _ {P : Plan} {c : Parts} (o : Sound P) (R : Roles P c) (plain : planNumbe
           takes-eve r (s .counts) (TickOf (record { 0 = i })) (s .kept) (s .eve)
           (next-first P c (within r) i below (s .quiet) (is-due (dueFrom c i) r s i below (rw (t, from-self i))) t lower)
 
-      eve : Eve P c (ticked P i r) (bump (s .counts) i)
-      eve = eve-tick o R (s .kept .room) (s .eve) i not-fast (taken .move)
+      eve : BeforeMessage P c (ticked P i r) (bump (s .counts) i)
+      eve = before-message-tick (setting R (s .kept)) (s .eve) i not-fast (taken .move)
 
       -- who was about to send would have the sender of p done with its tick
       quiet : (k : ℕ) → k < P .nodes .0 → isAbout (node (ticked P i r) k .mode) ≡ true → ⊥
@@ -161,7 +163,7 @@ module _ {P : Plan} {c : Parts} (o : Sound P) (R : Roles P c) (plain : planNumbe
   -- the sender of p and the fast node
 
   -- after the message only the fast node is due
-  module _ (r : Run) (n : ℕ → ℕ) (kept : Kept P r) (D : Dawn P c r n) where
+  module _ (r : Run) (n : ℕ → ℕ) (kept : Kept P r) (D : AfterMessage P c r n) where
     only-fast : (k : ℕ) → k < P .nodes .0 → Due P c (within r) k → k ≡ f
     only-fast k l e = go (ℕ-discrete k f)
       where
@@ -196,7 +198,7 @@ module _ {P : Plan} {c : Parts} (o : Sound P) (R : Roles P c) (plain : planNumbe
       where
         taken : Taken P c (within r) (TickOf (record { 0 = f }))
         taken =
-            takes P c o plain by-parts (within r) (TickOf (record { 0 = f })) kept (dawn-on-time o R (kept .room) D) (dawn-in-step o R D)
+            takes P c o plain by-parts (within r) (TickOf (record { 0 = f })) kept (after-message-on-time (setting R kept) D) (dawn-in-step o R D)
             (next-third P c (within r) f (R .fast-below) quiet-dawn (D .fast .time ∙ sym (due-in P c f))
             (λ k l e. rw (eq-eqb k f (only-fast k l e))) (λ k l e. rw (eq-eqb k f (only-fast k l e)))
             (λ k l e. omega (arith, only-fast k (omega (arith, R .fast-below)) e)))
@@ -222,8 +224,8 @@ module _ {P : Plan} {c : Parts} (o : Sound P) (R : Roles P c) (plain : planNumbe
         lower : (k : ℕ) → k < a → Due P c (within r) k → not (eqb k f) ≡ false
         lower k l e = not-so (not (eqb k f)) (λ y. clash (neither c k) (rw (y, ne-eqb k a (omega arith))) (two-due k (omega (arith, R .sender-below)) e))
 
-    eve-after : Eve P c (ticked P a r) (bump (s .counts) a)
-    eve-after = eve-tick o R (s .kept .room) (s .eve) a (sender-not-fast R) (ticking .move)
+    eve-after : BeforeMessage P c (ticked P a r) (bump (s .counts) a)
+    eve-after = before-message-tick (setting R (s .kept)) (s .eve) a (sender-not-fast R) (ticking .move)
 
     -- its tick, the pivot's, makes the sender of p about to send
     sender-about : isAbout (node (ticked P a r) a .mode) ≡ true
@@ -232,7 +234,7 @@ module _ {P : Plan} {c : Parts} (o : Sound P) (R : Roles P c) (plain : planNumbe
         full : bump (s .counts) a a ≡ distance (P .frame .0) 0 (own P a) * P .ticks .0 + P .guard .0
         full =
             let count = due-lacks o (s .eve .round a (R .sender-below) .turned) (sender-due ∙ due-in P c a) in
-            rw (bump-same (s .counts) a, R .sender-own, from-0 (P .frame .0) (c .p .0) (pivot-in-frame o R)) (omega arith)
+            rw (bump-same (s .counts) a, R .sender-own, from-0 (P .frame .0) (c .p .0) (pivot-in-frame R)) (omega arith)
 
         go : (b : Bool) → isAbout (node (ticked P a r) a .mode) ≡ b → isAbout (node (ticked P a r) a .mode) ≡ true
         go true e = e
@@ -255,7 +257,7 @@ module _ {P : Plan} {c : Parts} (o : Sound P) (R : Roles P c) (plain : planNumbe
         (rw (ne-eqb a f (sender-not-fast R)) (takes-then P c (within (ticked P a r)) (SendOf (record { 0 = a })) [] In (Spoken P c) sending (record {
           to = sent P a (ticked P a r);
           plays = refl;
-          holds = record { counts = bump (s .counts) a; kept = sending .kept; dawn = eve-send o R (ticking .kept .room) eve-after a (sending .move) };
+          holds = record { counts = bump (s .counts) a; kept = sending .kept; dawn = before-message-send (setting R (ticking .kept)) eve-after a (sending .move) };
         })))
 
   -- the whole pivot
@@ -263,7 +265,7 @@ module _ {P : Plan} {c : Parts} (o : Sound P) (R : Roles P c) (plain : planNumbe
   unfolding pivotRound markAfter
   pivot-round T r s e =
       takes-then P c (earlier r) (Delay (P .min)) _ After (Ticked P) wait
-      (rw (pivot-is o R (s .kept .room) (s .early) (P .min .0) (wait .move) now)
+      (rw (pivot-is (setting R (s .kept)) (s .early) (P .min .0) (wait .move) now)
       (leads-then P (leads-then P (pass (delayed P (P .min .0) r) begun) sender-sends) (λ r m. fast-ticks r (m .counts) (m .kept) (m .dawn))))
     where
       wait : Taken P c (earlier r) (Delay (P .min))
@@ -277,7 +279,7 @@ module _ {P : Plan} {c : Parts} (o : Sound P) (R : Roles P c) (plain : planNumbe
           record {
             counts = s .counts;
             kept = wait .kept;
-            eve = eve-begins o R (s .kept .room) (s .early) (P .min .0) (wait .move) now;
+            eve = pivot-begins (setting R (s .kept)) (s .early) (P .min .0) (wait .move) now;
             quiet = all-delayed P r (s .kept .room) (λ k a. isAbout (a .mode) ≡ false) (P .min .0) (s .quiet);
             times = all-delayed P r (s .kept .room) (λ k a. a .time .0 ≡ P .min .0) (P .min .0) (λ k l. omega (arith, s .nodes k l .time));
           }

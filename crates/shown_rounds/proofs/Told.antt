@@ -25,11 +25,12 @@ use Rattle.shown.specs.declared.Place.{Place}
 use Rattle.shown.specs.declared.Parts.{Parts}
 use Rattle.shown.specs.Shown.{freshPlace, dueTime, turns, pivotNext, givenBy, givenOf}
 use Rattle.shown.proofs.Roles.{Roles, Failure}
+use Rattle.shows_why.proofs.Progress.{setting}
 use Rattle.shows_why.proofs.Rounds.{earlier, pivotCount}
-use Rattle.shows_why.proofs.Dawn.{pivot-is, pivot-not}
+use Rattle.shows_why.proofs.BeforeMessage.{pivot-is, pivot-not}
 use Rattle.shown.proofs.Casting.{cast}
 use Rattle.shown.proofs.Giving.{given-is}
-use Rattle.shows_why.proofs.Why.{fresh-early}
+use Rattle.shows_why.proofs.Why.{fresh-before-pivot}
 use Rattle.shown_rounds.specs.Rounds.{roundBefore, roundsBefore, afterRounds, throughPivot}
 use Rattle.shown_rounds.specs.Moments.{moments}
 use Rattle.shown_rounds.specs.ByRounds.{told, pivotEnd, ByRounds, ShownByRounds}
@@ -63,7 +64,7 @@ module _ {P : Plan} {c : Parts} (o : Sound P) (R : Roles P c) (F : Failure P c) 
       record {
         counts = λ k. 0;
         kept = record { room = omega (arith, room-fresh, o .nodes-high); range = fresh-range P o };
-        early = fresh-early P o c R F;
+        early = fresh-before-pivot o c;
         quiet = λ k l. rw (node-fresh k (omega (arith, o .nodes-high)));
         nodes = λ k l. rw (node-fresh k (omega (arith, o .nodes-high))) (record { time = refl; count = refl });
       }
@@ -93,13 +94,13 @@ module _ {P : Plan} {c : Parts} (o : Sound P) (R : Roles P c) (F : Failure P c) 
   pivot-now k e =
       let s = rest-after k (omega arith) in
       turns-is P c R (afterRounds P k) (s .quiet (c .sender .0) (R .sender-below))
-      ∙ pivot-is o R (s .kept .room) (s .early) (P .min .0) (waits-min o R plain by-parts k (afterRounds P k) s .move) (omega (arith, rest-number o R plain by-parts k (afterRounds P k) s))
+      ∙ pivot-is (setting R (s .kept)) (s .early) (P .min .0) (waits-min o R plain by-parts k (afterRounds P k) s .move) (omega (arith, rest-number o R plain by-parts k (afterRounds P k) s))
 
   pivot-later : (k : ℕ) → k + 1 < pivotCount P c → turns P (afterRounds P k) (c .sender .0) ≡ false
   pivot-later k l =
       let s = rest-after k (omega arith) in
       turns-is P c R (afterRounds P k) (s .quiet (c .sender .0) (R .sender-below))
-      ∙ pivot-not o R (s .kept .room) (s .early) (P .min .0) (waits-min o R plain by-parts k (afterRounds P k) s .move) (λ e. absurd (omega (arith, rest-number o R plain by-parts k (afterRounds P k) s)))
+      ∙ pivot-not (setting R (s .kept)) (s .early) (P .min .0) (waits-min o R plain by-parts k (afterRounds P k) s .move) (λ e. absurd (omega (arith, rest-number o R plain by-parts k (afterRounds P k) s)))
 
   through : (k : ℕ) → k + 1 ≡ pivotCount P c → Leads P (earlier freshRun) (throughPivot P c k) After (Ticked P)
   through k e = leads-then P (before k (omega arith)) (λ r s. pivot-round o R plain by-parts k r s e)

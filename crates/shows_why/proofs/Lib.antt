@@ -1,9 +1,11 @@
 pub mod Progress
 pub mod Stands
-pub mod Wall
-pub mod Tail
-pub mod Later
 pub mod Rounds
-pub mod Dawn
+pub mod FastAndOthers
+pub mod AfterPivot
+pub mod LastTick
+pub mod ByRule
+pub mod AfterMessage
+pub mod BeforeMessage
 pub mod Why
 pub mod Left

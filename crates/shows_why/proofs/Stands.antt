@@ -1,15 +1,13 @@
 -- One node by its count of ticks since slot p began: where it stands, and what its mode says of it. A tick counts one more.
-use Prim.Native.Nat.{ℕ, suc, _+_, _*_, _%_, _≤_, _<_}
+use Prim.Native.Nat.{ℕ, suc, _+_, _*_, _≤_, _<_}
 use mathlib.Core.Path.{_≡_, refl, _∙_}
 use mathlib.Core.Logic.{_≢_}
 use mathlib.Core.Bool.{Bool, true, false, _||_}
-use native.Mathlib.Nat.{lt-of-mul-lt-mul-right, mul-le-mul-right}
-use native.Mathlib.Decide.{ℕ-discrete}
 use native.Mathlib.Omega.{arith}
 use lib.Dec.{ltb}
 use Rattle.laws.specs.Ring.{distance}
 use Rattle.laws.proofs.Bools.{clash}
-use Rattle.laws.proofs.Ring.{distance-same, distance-next, next-below}
+use Rattle.laws.proofs.Ring.{distance-same, next-below}
 use Rattle.laws.proofs.Digits.{same-digits}
 use Rattle.plan.specs.declared.Plan.{Plan}
 use Rattle.plan.specs.Tested.{Sound}
@@ -18,22 +16,13 @@ use Rattle.run.specs.declared.Mode.the-variants.{Waiting, AboutToSend, Sending}
 use Rattle.run.specs.declared.NodeState.{NodeState}
 use Rattle.run.specs.State.{isAbout, isSending}
 use Rattle.run.specs.Moves.{nodeTicked, nodeDelayed, nodeSent, nodeHearing}
-use Rattle.run.proofs.Outcomes.{clock-heard, clock-on, clock-round, mode-turns, mode-elsewhere, mode-waits, mode-ends, mode-sends, slot-moves, slot-stays, slot-sending}
+use Rattle.run.proofs.TickCases.{tickedTo, Strays, TickTo, heard, goes-round, turns-about, waits-on, sends-on, ends, strays, tick-of, counts-round}
 
--- why a waiting node of slot w is neither about to send nor sending
-pub data Idle (P : Plan) (w c s : ℕ) : Type 0 where
-  away : s ≢ w → Idle P w c s
-  early : c < P .guard .0 → Idle P w c s
-  late : P .ticks .0 ≤ c + P .tail .0 → Idle P w c s
-
--- what the mode and the pending mark of a node of slot w say of its clock and slot number
-abbrev pub Fits : Plan → (w c s : ℕ) → Mode → Bool → Type 0
-Fits P w c s Waiting true = (s ≢ w) × (c ≡ P .guard .0)
-Fits P w c s Waiting false = Idle P w c s
-Fits P w c s AboutToSend true = ⊥
-Fits P w c s AboutToSend false = (s ≡ w) × (c ≡ P .guard .0)
-Fits P w c s Sending true = ⊥
-Fits P w c s Sending false = (s ≡ w) × (P .guard .0 ≤ c) × (c + P .tail .0 < P .ticks .0)
+-- what the mode of a node of slot w says of its clock c and slot number s: in its own slot it waits only before g and in the tail
+pub data Doing (P : Plan) (w c s : ℕ) : Mode → Type 0 where
+  waits : (s ≡ w → P .guard .0 ≤ c → P .ticks .0 ≤ c + P .tail .0) → Doing P w c s Waiting
+  about : s ≡ w → c ≡ P .guard .0 → Doing P w c s AboutToSend
+  sends : s ≡ w → P .guard .0 ≤ c → c + P .tail .0 < P .ticks .0 → Doing P w c s Sending
 
 -- the node has ticked u times since slot p began
 pub record Stands (P : Plan) (p w u : ℕ) (a : NodeState) : Type 0 where
@@ -41,11 +30,16 @@ pub record Stands (P : Plan) (p w u : ℕ) (a : NodeState) : Type 0 where
   pub clock-in : a .clock .0 < P .ticks .0
   pub slot-in : a .slot .0 < P .frame .0
   pub counts : distance (P .frame .0) p (a .slot .0) * P .ticks .0 + a .clock .0 ≡ u
-  pub fits : Fits P w (a .clock .0) (a .slot .0) (a .mode) (a .pending)
+  pub doing : Doing P w (a .clock .0) (a .slot .0) (a .mode)
+  pub hears : a .pending ≡ true → (a .slot .0 ≢ w) × (a .clock .0 ≡ P .guard .0)
 
-module _ {P : Plan} (o : Sound P) {p w : ℕ} where
+-- in another slot than its own a node waits whenever it waits
+pub waits-off : {P : Plan} {w c s : ℕ} → s ≢ w → Doing P w c s Waiting
+waits-off n = waits (λ e. absurd (n e))
+
+module _ {P : Plan} (S : Sound P) {p w : ℕ} where
   pub tick-stands : {u : ℕ} {a : NodeState} → isAbout (a .mode) ≡ false → u + 1 < P .frame .0 * P .ticks .0 → Stands P p w u a → Stands P p w (suc u) (nodeTicked P w a)
-  tick-stands {u} {a} n l h = go (a .mode) (a .pending) n (h .fits)
+  tick-stands {u} {a} quiet short h = go (tick-of P S w a (h .clock-in)) quiet (h .doing) (h .hears)
     where
       c : ℕ
       c = a .clock .0
@@ -54,46 +48,32 @@ module _ {P : Plan} (o : Sound P) {p w : ℕ} where
       s = a .slot .0
 
       -- a tick within the slot
-      here : (m : Mode) → c + 1 < P .ticks .0 → Fits P w (c + 1) s m false → Stands P p w (suc u) (record { clock = record { 0 = c + 1 }; slot = a .slot; time = record { 0 = 0 }; mode = m; pending = false })
-      here m l f = record { base-in = h .base-in; clock-in = l; slot-in = h .slot-in; counts = omega (arith, h .counts); fits = f }
+      on : (m : Mode) → c + 1 < P .ticks .0 → Doing P w (c + 1) s m → Stands P p w (suc u) (tickedTo (c + 1) s m)
+      on m l d = record { base-in = h .base-in; clock-in = l; slot-in = h .slot-in; counts = omega (arith, h .counts); doing = d; hears = λ e. clash false e refl }
 
-      -- the tick to the next slot
-      onward : c + 1 ≡ P .ticks .0 → Stands P p w (suc u) (record { clock = record { 0 = 0 }; slot = record { 0 = (s + 1) % P .frame .0 }; time = record { 0 = 0 }; mode = Waiting; pending = false })
-      onward e =
-          let d = distance (P .frame .0) p s in
-          let short : d + 1 < P .frame .0 = lt-of-mul-lt-mul-right (P .ticks .0) (omega (arith, h .counts)) in
+      stray : (m : Mode) (b : Bool) → isAbout m ≡ false → Doing P w c s m → (b ≡ true → (s ≢ w) × (c ≡ P .guard .0)) → Strays P w c s m b → ⊥
+      stray Waiting true q d e z = let x = e refl in x .0 (z (omega (arith, S .guard-tail)))
+      stray Waiting false q d e z = z
+      stray AboutToSend b q d e z = clash true refl q
+      stray Sending true q (sends d l k) e z = e refl .0 d
+      stray Sending false q (sends d l k) e z = omega (arith, S .tail-low)
+
+      go : {m : Mode} {b : Bool} {n : NodeState} → TickTo P w c s m b n → isAbout m ≡ false → Doing P w c s m → (b ≡ true → (s ≢ w) × (c ≡ P .guard .0)) → Stands P p w (suc u) n
+      go (heard n l) q d e = let z : P .guard .0 + 1 ≡ c + 1 = omega (arith, e refl .1) in rw z (on Waiting l (waits-off n))
+      go (goes-round l) q d e =
           record {
             base-in = h .base-in;
-            clock-in = omega arith;
-            slot-in = next-below (P .frame .0) s (omega arith);
-            counts = rw (distance-next (P .frame .0) p s (h .base-in) (h .slot-in) short) (omega (arith, h .counts));
-            fits = early (o .guard-low);
+            clock-in = omega (arith, h .clock-in);
+            slot-in = next-below (P .frame .0) s (omega (arith, h .slot-in));
+            counts = omega (arith, counts-round P p c s (h .base-in) (h .slot-in) l (omega (arith, h .counts)), h .counts);
+            doing = waits (λ d g. absurd (omega (arith, S .guard-low)));
+            hears = λ e. clash false e refl;
           }
-
-      waits : Idle P w c s → Dec (c + 1 ≡ P .ticks .0) → Dec (c + 1 ≡ P .guard .0) → Dec (s ≡ w) → Stands P p w (suc u) (nodeTicked P w (record { clock = a .clock; slot = a .slot; time = a .time; mode = Waiting; pending = false }))
-      waits f (yes e) g d = rw (clock-round P c e, slot-moves P c s e, mode-waits P w c s (omega (arith, o .guard-tail))) (onward e)
-      waits f (no e) (yes g) (yes d) = rw (clock-on P c (omega (arith, h .clock-in)), slot-stays P c s e, mode-turns P w c s d g) (here AboutToSend (omega (arith, h .clock-in)) (d, g))
-      waits f (no e) (yes g) (no d) = rw (clock-on P c (omega (arith, h .clock-in)), slot-stays P c s e, mode-elsewhere P w c s d) (here Waiting (omega (arith, h .clock-in)) (away d))
-      waits f (no e) (no g) d = rw (clock-on P c (omega (arith, h .clock-in)), slot-stays P c s e, mode-waits P w c s g) (here Waiting (omega (arith, h .clock-in)) (idle f))
-        where
-          idle : Idle P w c s → Idle P w (c + 1) s
-          idle (away d) = away d
-          idle (early q) = early (omega arith)
-          idle (late q) = late (omega arith)
-
-      sends : (g : P .guard .0 ≤ c) → c + P .tail .0 < P .ticks .0 → s ≡ w → Dec (c + P .tail .0 + 1 ≡ P .ticks .0) → Stands P p w (suc u) (nodeTicked P w (record { clock = a .clock; slot = a .slot; time = a .time; mode = Sending; pending = false }))
-      sends g b d (yes e) = rw (clock-on P c (omega (arith, o .tail-low)), slot-sending P c s, mode-ends P w c s e) (here Waiting (omega (arith, o .tail-low)) (late (omega arith)))
-      sends g b d (no e) = rw (clock-on P c (omega (arith, o .tail-low)), slot-sending P c s, mode-sends P w c s e) (here Sending (omega (arith, o .tail-low)) (d, omega arith, omega arith))
-
-      go : (m : Mode) (b : Bool) → isAbout m ≡ false → Fits P w c s m b → Stands P p w (suc u) (nodeTicked P w (record { clock = a .clock; slot = a .slot; time = a .time; mode = m; pending = b }))
-      go Waiting true n f =
-          let e : P .guard .0 + 1 ≡ c + 1 = omega (arith, f .1) in
-          rw (clock-heard P c, e, slot-stays P c s (omega (arith, f .1, o .guard-tail)), mode-elsewhere P w c s (f .0)) (here Waiting (omega (arith, f .1, o .guard-tail)) (away (f .0)))
-      go Waiting false n f = waits f (ℕ-discrete (c + 1) (P .ticks .0)) (ℕ-discrete (c + 1) (P .guard .0)) (ℕ-discrete s w)
-      go AboutToSend true n f = absurd f
-      go AboutToSend false n f = clash true refl n
-      go Sending true n f = absurd f
-      go Sending false n f = sends (f .1) (f .2) (f .0) (ℕ-discrete (c + P .tail .0 + 1) (P .ticks .0))
+      go (turns-about d t) q f e = on AboutToSend (omega (arith, S .guard-tail)) (about d t)
+      go (waits-on l t) q (waits f) e = on Waiting l (waits (λ d g. let z = t d in let y : P .guard .0 ≤ c = omega arith in omega (arith, f d y)))
+      go (sends-on l t) q (sends d g k) e = on Sending l (sends d (omega arith) (omega arith))
+      go (ends t) q f e = on Waiting (omega (arith, S .tail-low)) (waits (λ d g. omega arith))
+      go (strays m b z) q f e = absurd (stray m b q f e z)
 
   -- what its count and its mode tell of a node
   module _ {u : ℕ} {a : NodeState} (h : Stands P p w u a) where
@@ -110,13 +90,12 @@ module _ {P : Plan} (o : Sound P) {p w : ℕ} where
     past-slot s l e = absurd (let z : distance (P .frame .0) p s * P .ticks .0 + a .clock .0 ≡ u = rw e at (h .counts) in omega (arith, h .clock-in))
 
     pub about-at : isAbout (a .mode) ≡ true → (a .slot .0 ≡ w) × (a .clock .0 ≡ P .guard .0)
-    about-at = go (a .mode) (a .pending) (h .fits)
+    about-at = go (h .doing)
       where
-        go : (m : Mode) (b : Bool) → Fits P w (a .clock .0) (a .slot .0) m b → isAbout m ≡ true → (a .slot .0 ≡ w) × (a .clock .0 ≡ P .guard .0)
-        go Waiting b f e = clash false e refl
-        go AboutToSend true f e = absurd f
-        go AboutToSend false f e = f
-        go Sending b f e = clash false e refl
+        go : {m : Mode} → Doing P w (a .clock .0) (a .slot .0) m → isAbout m ≡ true → (a .slot .0 ≡ w) × (a .clock .0 ≡ P .guard .0)
+        go (waits f) e = clash false e refl
+        go (about d q) e = (d, q)
+        go (sends d l k) e = clash false e refl
 
     pub about-count : isAbout (a .mode) ≡ true → u ≡ distance (P .frame .0) p w * P .ticks .0 + P .guard .0
     about-count e =
@@ -124,76 +103,54 @@ module _ {P : Plan} (o : Sound P) {p w : ℕ} where
         let y : distance (P .frame .0) p w * P .ticks .0 + a .clock .0 ≡ u = rw (z .0) at (h .counts) in
         omega (arith, z .1)
 
-    pub sending-at : isSending (a .mode) ≡ true → a .slot .0 ≡ w
-    sending-at = go (a .mode) (a .pending) (h .fits)
+    pub sending-at : isSending (a .mode) ≡ true → (a .slot .0 ≡ w) × (P .guard .0 ≤ a .clock .0) × (a .clock .0 + P .tail .0 < P .ticks .0)
+    sending-at = go (h .doing)
       where
-        go : (m : Mode) (b : Bool) → Fits P w (a .clock .0) (a .slot .0) m b → isSending m ≡ true → a .slot .0 ≡ w
-        go Waiting b f e = clash false e refl
-        go AboutToSend b f e = clash false e refl
-        go Sending true f e = absurd f
-        go Sending false f e = f .0
+        go : {m : Mode} → Doing P w (a .clock .0) (a .slot .0) m → isSending m ≡ true → (a .slot .0 ≡ w) × (P .guard .0 ≤ a .clock .0) × (a .clock .0 + P .tail .0 < P .ticks .0)
+        go (waits f) e = clash false e refl
+        go (about d q) e = clash false e refl
+        go (sends d l k) e = (d, l, k)
 
-    -- in another slot than its own a node waits
+    -- a node waits in another slot than its own, and at a clock below g
+    waits-unless : (a .slot .0 ≡ w → P .guard .0 ≤ a .clock .0 → ⊥) → a .mode ≡ Waiting
+    waits-unless n = go (h .doing)
+      where
+        go : {m : Mode} → Doing P w (a .clock .0) (a .slot .0) m → m ≡ Waiting
+        go (waits f) = refl
+        go (about d q) = absurd (n d (omega arith))
+        go (sends d l k) = absurd (n d l)
+
     pub waits-away : a .slot .0 ≢ w → a .mode ≡ Waiting
-    waits-away n = go (a .mode) (a .pending) (h .fits)
-      where
-        go : (m : Mode) (b : Bool) → Fits P w (a .clock .0) (a .slot .0) m b → m ≡ Waiting
-        go Waiting b f = refl
-        go AboutToSend true f = absurd f
-        go AboutToSend false f = absurd (n (f .0))
-        go Sending true f = absurd f
-        go Sending false f = absurd (n (f .0))
+    waits-away n = waits-unless (λ d l. n d)
 
-    -- and so it does at a clock below g
     pub waits-early : a .clock .0 < P .guard .0 → a .mode ≡ Waiting
-    waits-early l = go (a .mode) (a .pending) (h .fits)
-      where
-        go : (m : Mode) (b : Bool) → Fits P w (a .clock .0) (a .slot .0) m b → m ≡ Waiting
-        go Waiting b f = refl
-        go AboutToSend true f = absurd f
-        go AboutToSend false f = absurd (omega (arith, f .1))
-        go Sending true f = absurd f
-        go Sending false f = absurd (omega (arith, f .1))
+    waits-early l = waits-unless (λ d g. omega arith)
 
     -- in its own slot, from g on and before the tail, it is about to send or sending
     pub busy : a .slot .0 ≡ w → P .guard .0 ≤ a .clock .0 → a .clock .0 + P .tail .0 < P .ticks .0 → isAbout (a .mode) ≡ false → isSending (a .mode) ≡ true
-    busy d l m = go (a .mode) (a .pending) (h .fits)
+    busy d l k = go (h .doing)
       where
-        idle : Idle P w (a .clock .0) (a .slot .0) → isSending Waiting ≡ true
-        idle (away n) = absurd (n d)
-        idle (early q) = absurd (omega arith)
-        idle (late q) = absurd (omega arith)
-
-        go : (m : Mode) (b : Bool) → Fits P w (a .clock .0) (a .slot .0) m b → isAbout m ≡ false → isSending m ≡ true
-        go Waiting true f e = absurd (f .0 d)
-        go Waiting false f e = idle f
-        go AboutToSend b f e = clash true refl e
-        go Sending b f e = refl
+        go : {m : Mode} → Doing P w (a .clock .0) (a .slot .0) m → isAbout m ≡ false → isSending m ≡ true
+        go (waits f) e = absurd (omega (arith, f d l))
+        go (about q z) e = clash true refl e
+        go (sends q y z) e = refl
 
     -- so where it has just come to g of its own slot
     pub busy-at-own : w < P .frame .0 → u ≡ distance (P .frame .0) p w * P .ticks .0 + P .guard .0 → isAbout (a .mode) ≡ false → isSending (a .mode) ≡ true
     busy-at-own hw q =
-        let z = at-place w (P .guard .0) hw (omega (arith, o .guard-tail)) q in
-        busy (z .0) (omega (arith, z .1)) (omega (arith, z .1, o .guard-tail))
+        let z = at-place w (P .guard .0) hw (omega (arith, S .guard-tail)) q in
+        busy (z .0) (omega (arith, z .1)) (omega (arith, z .1, S .guard-tail))
 
     -- a delay, a send and a message heard leave it where it stands
+    still : (x : ℕ) (m : Mode) (b : Bool) → Doing P w (a .clock .0) (a .slot .0) m → (b ≡ true → (a .slot .0 ≢ w) × (a .clock .0 ≡ P .guard .0))
+        → Stands P p w u (record { clock = a .clock; slot = a .slot; time = record { 0 = x }; mode = m; pending = b })
+    still x m b d e = record { base-in = h .base-in; clock-in = h .clock-in; slot-in = h .slot-in; counts = h .counts; doing = d; hears = e }
+
     pub delay-stands : (d : ℕ) → Stands P p w u (nodeDelayed d a)
-    delay-stands d = record { base-in = h .base-in; clock-in = h .clock-in; slot-in = h .slot-in; counts = h .counts; fits = h .fits }
+    delay-stands d = still (a .time .0 + d) (a .mode) (a .pending) (h .doing) (h .hears)
 
     pub send-stands : isAbout (a .mode) ≡ true → Stands P p w u (nodeSent a)
-    send-stands e =
-        record { base-in = h .base-in; clock-in = h .clock-in; slot-in = h .slot-in; counts = h .counts; fits = go (a .mode) (a .pending) (h .fits) e }
-      where
-        go : (m : Mode) (b : Bool) → Fits P w (a .clock .0) (a .slot .0) m b → isAbout m ≡ true → Fits P w (a .clock .0) (a .slot .0) Sending b
-        go Waiting b f e = clash false e refl
-        go AboutToSend true f e = f
-        go AboutToSend false f e = (f .0, omega (arith, f .1), omega (arith, f .1, o .guard-tail))
-        go Sending b f e = clash false e refl
+    send-stands e = let z = about-at e in still (a .time .0) Sending (a .pending) (sends (z .0) (omega (arith, z .1)) (omega (arith, z .1, S .guard-tail))) (h .hears)
 
     pub hear-stands : a .slot .0 ≢ w → a .clock .0 ≡ P .guard .0 → Stands P p w u (nodeHearing P a)
-    hear-stands n e =
-        record { base-in = h .base-in; clock-in = h .clock-in; slot-in = h .slot-in; counts = h .counts; fits = rw (waits-away n) (go (a .pending || ltb (a .slot .0) (P .active .0))) }
-      where
-        go : (b : Bool) → Fits P w (a .clock .0) (a .slot .0) Waiting b
-        go true = (n, e)
-        go false = away n
+    hear-stands n e = still (a .time .0) (a .mode) (a .pending || ltb (a .slot .0) (P .active .0)) (h .doing) (λ q. (n, e))
