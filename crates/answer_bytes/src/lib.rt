@@ -1,4 +1,6 @@
 // Answers, verdicts, steps and places of a shown run as numbers and bytes, for callers that keep them in memory of their own.
+#![tactic(auto)]
+
 mod answers;
 mod forms;
 mod places;

@@ -1,5 +1,7 @@
 // What the exported calls do once the plan in the file is taken and every lent buffer has the right length; and the two tests
 // of that, of files and of lengths.
+#![tactic(auto)]
+
 mod lengths;
 mod many;
 mod runs;
@@ -16,7 +18,7 @@ pub use taking::taken_from;
 pub use verdicts::verdict_by;
 
 // A plan file read: the reader's refusal, 0 where it takes the file, and the plan.
-#[derive(Drop)]
+#[derive(Clone, Copy)]
 pub struct Taken {
     pub number: u8,
     pub plan: Plan,

@@ -7,6 +7,8 @@
 // send, 2 sending) and pending (1: yes). No number in the fourth part: none was sent. Places that a line tells nothing of are
 // filled with numbers out of every range, 65535 in the slots and 255 65535 4294967295 2 1 in the nodes: they must not matter,
 // and must stay.
+#![tactic(auto)]
+
 mod list;
 mod numbers;
 mod plans;

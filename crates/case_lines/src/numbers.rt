@@ -3,7 +3,7 @@
 
 // How far a line was read: the part, how many of its numbers have ended, whether one is being read, and what the one asked
 // for is so far.
-#[derive(Drop)]
+#[derive(Clone, Copy)]
 struct Scan {
     part: u32,
     ended: u32,

@@ -1,4 +1,6 @@
 // The desk keeps one run and moves it on in place, step after step: a thin function over the step by value, and a caller whose own parameters are plain.
+#![tactic(auto)]
+
 ghost use Rattle.std.specs.Prelude.{◌≡◌};
 ghost use Rattle.run.specs.Steps.{step_of};
 

@@ -1,4 +1,6 @@
 // Out of step: a node is sending and some node has another slot number. The lowest sending node decides for all.
+#![tactic(auto)]
+
 ghost use Rattle.std.specs.Prelude.{◌≡◌, ◌<◌};
 ghost use Rattle.laws.specs.Below.{first_below};
 ghost use Rattle.plan.specs.Tested.{Sound};

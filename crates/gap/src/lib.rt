@@ -1,4 +1,6 @@
 // The gap of a plan: for each node the predecessor of its sending slot and the distance to it, and M, the largest.
+#![tactic(auto)]
+
 ghost use Rattle.std.specs.Prelude.{◌≡◌, ◌≤◌, ◌<◌, min, max, length};
 ghost use Rattle.laws.specs.Ring.{distance};
 ghost use Rattle.plan.specs.Sending.{sends};
@@ -9,14 +11,14 @@ ghost use Rattle.gap.specs.Distances.{Occupied, taken, Free, node_distance, dist
 use plan::{Plan, Slot};
 
 // The predecessor of a node's sending slot, and D, the slots from it.
-#[derive(Drop)]
+#[derive(Clone, Copy)]
 pub struct NodeDistance {
     pub predecessor: Slot,
     pub distance: Slot,
 }
 
 // What the frame is like for each node; places from N on are 0.
-#[derive(Drop)]
+#[derive(Clone, Copy)]
 pub struct Distances {
     pub nodes: [NodeDistance; 32],
 }

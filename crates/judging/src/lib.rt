@@ -1,5 +1,7 @@
 // What the judging program writes of a plan file: the verdict, and for a plan that fails a rule its shown run, line by line.
 // The plan is tested and prepared once; text waits in a buffer and goes out in blocks.
+#![tactic(auto)]
+
 ghost use Rattle.std.specs.Prelude.{◌≡◌};
 ghost use Rattle.plan.specs.Tested.{plan_number};
 ghost use Rattle.judging.specs.Failing.{Failing};

@@ -1,4 +1,6 @@
 // A step spelt: its letter and its number, and the step that they spell.
+#![tactic(auto)]
+
 ghost use Rattle.std.specs.Prelude.{◌≡◌};
 ghost use Rattle.letters.specs.Letters.{spelt_of, is_letter, step_by};
 
@@ -6,7 +8,7 @@ use plan::{Node, Time};
 use run::Step;
 
 // The letter of a kind of step, and the length of the delay or the node.
-#[derive(Drop)]
+#[derive(Clone, Copy)]
 pub struct Spelt {
     pub letter: u8,
     pub number: u32,

@@ -1,4 +1,6 @@
 // The lines of a run, step, `out` and answer, and the one line of a refusal.
+#![tactic(auto)]
+
 ghost use Rattle.std.specs.Prelude.{◌≡◌, ◌+◌, ◌≤◌, length};
 ghost use Rattle.text.specs.Text.{Put};
 ghost use Rattle.text.specs.Written.{wrote_of, buffer_of};

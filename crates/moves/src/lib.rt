@@ -1,4 +1,6 @@
 // What a tick, a delay and a send make of a node and of the run.
+#![tactic(auto)]
+
 ghost use Rattle.std.specs.Prelude.{◌≡◌, true, ℕ, ◌+◌, ◌≤◌, ◌<◌};
 ghost use Rattle.plan.specs.Tested.{Sound};
 ghost use Rattle.run.specs.State.{node, node_in_range, in_range};

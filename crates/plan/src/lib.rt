@@ -1,4 +1,6 @@
 // The numbers of a plan, each kind of number a type of its own, and refusals 1 to 9.
+#![tactic(auto)]
+
 ghost use Rattle.std.specs.Prelude.{◌≡◌, ◌≤◌, ◌<◌};
 ghost use Rattle.laws.specs.Row.{first_given, outside};
 ghost use Rattle.plan.specs.Sending.{sends_below};
@@ -14,23 +16,23 @@ pub use refusals::{
 };
 
 // A clock, or a count of its ticks.
-#[derive(Drop)]
+#[derive(Clone, Copy)]
 pub struct Tick(pub u8);
 
 // A slot of the frame, or a count of slots.
-#[derive(Drop)]
+#[derive(Clone, Copy)]
 pub struct Slot(pub u16);
 
 // A node, or a count of nodes.
-#[derive(Drop)]
+#[derive(Clone, Copy)]
 pub struct Node(pub u32);
 
 // Real time, in the plan's own units.
-#[derive(Drop)]
+#[derive(Clone, Copy)]
 pub struct Time(pub u32);
 
 // A plan as it is handed in, tested or not. Places of `slots` from `nodes` on mean nothing.
-#[derive(Drop)]
+#[derive(Clone, Copy)]
 pub struct Plan {
     // N
     pub nodes: Node,
@@ -61,6 +63,7 @@ fn is_outside(low: u32, high: u32, x: u32) -> bool
     high < x
 }
 
+#[tactic(auto, unfolding(crate::specs::Tested::is_active_outside))]
 fn active_outside(plan: Plan) -> bool
     ensures { result ≡ is_active_outside plan }
 {
@@ -70,6 +73,7 @@ fn active_outside(plan: Plan) -> bool
     plan.frame.0 < plan.active.0
 }
 
+#[tactic(auto, unfolding(crate::specs::Tested::is_guard_or_tail_wrong))]
 fn guard_or_tail_wrong(plan: Plan) -> bool
     ensures { result ≡ is_guard_or_tail_wrong plan }
 {
@@ -82,6 +86,7 @@ fn guard_or_tail_wrong(plan: Plan) -> bool
     (plan.ticks.0 as u32) < plan.guard.0 as u32 + plan.tail.0 as u32 + 2
 }
 
+#[tactic(auto, unfolding(crate::specs::Tested::is_min_or_max_wrong))]
 fn min_or_max_wrong(plan: Plan) -> bool
     ensures { result ≡ is_min_or_max_wrong plan }
 {
@@ -95,6 +100,7 @@ fn min_or_max_wrong(plan: Plan) -> bool
 }
 
 // A sending slot is n or more.
+#[tactic(auto, using(laws::proofs::Belows::any_more, laws::proofs::Belows::any_none, laws::proofs::Belows::any_found), unfolding(crate::specs::Tested::some_not_active))]
 fn some_not_active(plan: Plan, nodes: usize) -> bool
     requires { (nodes ≡ plan.nodes.0) × (nodes ≤ 32) }
     ensures { result ≡ some_not_active plan }
@@ -109,6 +115,7 @@ fn some_not_active(plan: Plan, nodes: usize) -> bool
 }
 
 // Some node below count sends in the slot.
+#[tactic(auto, using(laws::proofs::Belows::any_more, laws::proofs::Belows::any_none, laws::proofs::Belows::any_found))]
 fn sends_below(plan: Plan, count: usize, slot: Slot) -> bool
     requires { count ≤ 32 }
     ensures { result ≡ sends_below plan count slot.0 }
@@ -123,6 +130,7 @@ fn sends_below(plan: Plan, count: usize, slot: Slot) -> bool
 }
 
 // Node i sends in the slot of a node before it.
+#[tactic(auto, unfolding(crate::specs::Tested::shares_slot))]
 fn shares_slot(plan: Plan, i: usize) -> bool
     requires { i < 32 }
     ensures { result ≡ shares_slot plan i }
@@ -144,6 +152,7 @@ fn some_shared(plan: Plan, nodes: usize) -> bool
 }
 
 // Which of 1 to 3 speaks first; 0 where none does.
+#[tactic(auto, unfolding(laws::specs::Row::first_given))]
 fn frame_number(plan: Plan) -> u8
     ensures { result ≡ first_given (frame_rows plan) }
 {
@@ -160,6 +169,7 @@ fn frame_number(plan: Plan) -> u8
 }
 
 // Which of 4 to 6 speaks first; 0 where none does.
+#[tactic(auto, unfolding(laws::specs::Row::first_given))]
 fn ticks_number(plan: Plan) -> u8
     ensures { result ≡ first_given (ticks_rows plan) }
 {
@@ -176,6 +186,7 @@ fn ticks_number(plan: Plan) -> u8
 }
 
 // Which of 7 to 9 speaks first; 0 where none does.
+#[tactic(auto, unfolding(laws::specs::Row::first_given, crate::specs::Sending::sends))]
 fn slots_number(plan: Plan, nodes: usize) -> u8
     requires { (nodes ≡ plan.nodes.0) × (nodes ≤ 32) }
     ensures { result ≡ first_given (slot_rows plan) }

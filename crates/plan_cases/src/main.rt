@@ -1,6 +1,8 @@
 // What refusals say of plans, one case a line of `cases`, as `case_lines` reads them. A line that asks for a file names a plan
 // file: what the reader makes of it. Any other has a plan's numbers: what refusals 1 to 9 say of them, so that N can be one that
 // no file can hold, and places that no node has can be full.
+#![tactic(auto)]
+
 use case_lines::{asked, write_number, write_word};
 use plan::{Plan, Slot};
 use plan_file::Read;

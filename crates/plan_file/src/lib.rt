@@ -1,18 +1,20 @@
 // The reader: the bytes of a plan file to a plan, or to a refusal (20 to 22, then 1 to 9).
+#![tactic(auto)]
+
 ghost use Rattle.std.specs.Prelude.{◌≡◌, ◌+◌, ◌*◌, ◌≤◌, ◌<◌, length};
 ghost use Rattle.laws.specs.Bytes.{byte_at};
 ghost use Rattle.plan_file.specs.File.{be16_of, be32_of, mark_wrong, is_length_wrong, file_number, slot_at, slots_of, plan_of, no_plan, read_of};
 
 use plan::{LENGTH_WRONG, NOT_A_PLAN_FILE, Node, Plan, Slot, Tick, Time, VERSION_UNKNOWN};
 
-#[derive(Drop)]
+#[derive(Clone, Copy)]
 pub enum Read {
     Taken,
     Refused(u8),
 }
 
 // What the reader makes of a file: the plan where it is taken, a plan of zeros where it is refused.
-#[derive(Drop)]
+#[derive(Clone, Copy)]
 pub struct PlanRead {
     pub answer: Read,
     pub plan: Plan,

@@ -1,4 +1,6 @@
 // A node's reckoning of its ticks: refusals 10, 12 and 17, and the ticks.
+#![tactic(auto)]
+
 ghost use Rattle.std.specs.Prelude.{◌≡◌, true, false, ◌<◌};
 ghost use Rattle.plan.specs.Tested.{Sound};
 ghost use Rattle.run.specs.State.{node_in_range, last_in_range};

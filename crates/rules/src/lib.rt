@@ -1,4 +1,6 @@
 // The three rules and the verdict.
+#![tactic(auto)]
+
 ghost use Rattle.std.specs.Prelude.{◌≡◌, ◌*◌, ◌≤◌, ◌<◌};
 ghost use Rattle.plan.specs.Tested.{plan_number, Sound};
 ghost use Rattle.gap.specs.Gap.{gap_of};
@@ -9,7 +11,7 @@ ghost use Rattle.rules.specs.Preparing.{prepared_of};
 use gap::Distances;
 use plan::{Plan, Slot, Time};
 
-#[derive(Drop)]
+#[derive(Clone, Copy)]
 pub enum Rule {
     One,
     Two,
@@ -17,20 +19,20 @@ pub enum Rule {
 }
 
 // The two sides of a rule, which holds where left is less than right.
-#[derive(Drop)]
+#[derive(Clone, Copy)]
 pub struct Sides {
     pub left: u64,
     pub right: u64,
 }
 
 // All rules hold, or the first that fails.
-#[derive(Drop)]
+#[derive(Clone, Copy)]
 pub enum Outcome {
     Accepted,
     Fails(Rule),
 }
 
-#[derive(Drop)]
+#[derive(Clone, Copy)]
 pub struct Verdict {
     // M
     pub gap: Slot,
@@ -41,13 +43,13 @@ pub struct Verdict {
 }
 
 // What is found of a plan once: every node's predecessor and D, and the verdict, with M in it.
-#[derive(Drop)]
+#[derive(Clone, Copy)]
 pub struct Prepared {
     pub distances: Distances,
     pub verdict: Verdict,
 }
 
-#[derive(Drop)]
+#[derive(Clone, Copy)]
 pub enum Judged {
     Gives(Verdict),
     Refused(u8),

@@ -1,4 +1,6 @@
 // A run: its state, fresh, and in range. Steps and answers are types here, and code in the crates above.
+#![tactic(auto)]
+
 mod modes;
 mod range;
 
@@ -9,7 +11,7 @@ pub use modes::{is_about, is_sending};
 use plan::{Node, Slot, Tick, Time};
 pub use range::in_range;
 
-#[derive(Drop)]
+#[derive(Clone, Copy)]
 pub enum Mode {
     Waiting,
     AboutToSend,
@@ -17,13 +19,13 @@ pub enum Mode {
 }
 
 // The slot of the last message, or the mark that none was sent.
-#[derive(Drop)]
+#[derive(Clone, Copy)]
 pub enum Last {
     At(Slot),
     Nothing,
 }
 
-#[derive(Drop)]
+#[derive(Clone, Copy)]
 pub struct NodeState {
     pub clock: Tick,
     pub slot: Slot,
@@ -35,34 +37,34 @@ pub struct NodeState {
 }
 
 // A run as it is handed in, tested or not. Places of `nodes` from N on are never tested and never change.
-#[derive(Drop)]
+#[derive(Clone, Copy)]
 pub struct Run {
     pub nodes: [NodeState; 32],
     pub last: Last,
 }
 
-#[derive(Drop)]
+#[derive(Clone, Copy)]
 pub enum Step {
     Delay(Time),
     TickOf(Node),
     SendOf(Node),
 }
 
-#[derive(Drop)]
+#[derive(Clone, Copy)]
 pub enum Answer {
     Done,
     Refused(u8),
 }
 
 // The answer to a step, and the run after it: the run as it was, where the step was refused.
-#[derive(Drop)]
+#[derive(Clone, Copy)]
 pub struct Stepped {
     pub answer: Answer,
     pub run: Run,
 }
 
 // Whether a run is out of step: the lowest sending node with a node elsewhere, and the lowest such node.
-#[derive(Drop)]
+#[derive(Clone, Copy)]
 pub enum Apart {
     InStep,
     Out(Node, Node),
@@ -70,7 +72,7 @@ pub enum Apart {
 }
 
 // A node's reckoning, in ticks.
-#[derive(Drop)]
+#[derive(Clone, Copy)]
 pub enum Reckoned {
     Ticks(u32),
     Refused(u8),

@@ -1,4 +1,6 @@
 // The byte form of a run, which a caller outside keeps and lends.
+#![tactic(auto)]
+
 ghost use Rattle.std.specs.Prelude.{◌≡◌, ◌+◌, ◌*◌, ◌≤◌, length, set};
 ghost use Rattle.std.proofs.lemmas.List.Edits.{sets};
 ghost use Rattle.run_bytes.specs.Numbers.{be16_bytes, be32_bytes, be64_bytes};

@@ -1,4 +1,6 @@
 // The run shown for a plan that fails a rule: its places, and where it begins.
+#![tactic(auto)]
+
 ghost use Rattle.std.specs.Prelude.{◌≡◌};
 ghost use Rattle.shown.specs.Shown.{fresh_place};
 
@@ -6,7 +8,7 @@ use plan::{Node, Slot};
 use run::{Run, Step, fresh};
 
 // Before, in or after the pivot.
-#[derive(Drop)]
+#[derive(Clone, Copy)]
 pub enum Mark {
     Before,
     In,
@@ -14,21 +16,21 @@ pub enum Mark {
 }
 
 // A place in a shown run, which the caller hands back for the next step.
-#[derive(Drop)]
+#[derive(Clone, Copy)]
 pub struct Place {
     pub run: Run,
     pub mark: Mark,
 }
 
 // Who plays which part: the slot p, the node that sends in it, and the fast node.
-#[derive(Drop)]
+#[derive(Clone, Copy)]
 pub struct Parts {
     pub p: Slot,
     pub sender: Node,
     pub fast: Node,
 }
 
-#[derive(Drop)]
+#[derive(Clone, Copy)]
 pub enum Next {
     Takes(Step),
     Finished,
@@ -36,7 +38,7 @@ pub enum Next {
 }
 
 // The next step and the place after it; where there is no step, the place as it was.
-#[derive(Drop)]
+#[derive(Clone, Copy)]
 pub struct Given {
     pub next: Next,
     pub place: Place,

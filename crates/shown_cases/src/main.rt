@@ -1,6 +1,8 @@
 // Shown runs, whole and place by place, one case a line of `cases`, as `case_lines` reads them. A line that asks for a file names
 // a plan file: what the judging program writes of it. Any other is a place, a mark with a plan and a run: the next shown step
 // there.
+#![tactic(auto)]
+
 use case_lines::{asked, write_word};
 use lines::Wrote;
 use plan::Plan;

@@ -1,4 +1,6 @@
 // One look round the nodes finds every candidate for the next step at once.
+#![tactic(auto)]
+
 ghost use Rattle.std.specs.Prelude.{◌≡◌, cond, ◌&&◌, ◌+◌, ◌<◌};
 ghost use Rattle.plan.specs.Sending.{own};
 ghost use Rattle.plan.specs.Tested.{Sound};
@@ -15,7 +17,7 @@ use shown::{Mark, Parts};
 
 // The lowest node about to send, the lowest due of those who go first, of those who go next, of all, and the lowest sending;
 // N where there is none.
-#[derive(Drop)]
+#[derive(Clone, Copy)]
 pub struct Seen {
     pub about: Node,
     pub first: Node,
@@ -25,7 +27,7 @@ pub struct Seen {
 }
 
 // What a look round the nodes tells: a time is past due, or who could go next.
-#[derive(Drop)]
+#[derive(Clone, Copy)]
 pub enum Looked {
     PastDue,
     OnTime(Seen),

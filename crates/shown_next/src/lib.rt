@@ -1,4 +1,6 @@
 // The next step of a shown run, and the place after it.
+#![tactic(auto)]
+
 mod choosing;
 
 ghost use Rattle.std.specs.Prelude.{◌≡◌, true, ◌<◌};

@@ -1,4 +1,6 @@
 // Who plays which part, from the distances of a tested plan: loops over the nodes, none over the frame.
+#![tactic(auto)]
+
 ghost use Rattle.std.specs.Prelude.{◌≡◌, cond, not, ◌&&◌, eqb};
 ghost use Rattle.laws.specs.Below.{first_below};
 ghost use Rattle.plan.specs.Tested.{plan_number, Sound};

@@ -1,5 +1,7 @@
 // Steps, the out-of-step test and reckonings on states handed in, one case a line of `cases`: its name, a colon, a step, a plan
 // and a run, as `case_lines` reads them. Two lines for each.
+#![tactic(auto)]
+
 use case_lines::{asked, number, write_number, write_word};
 use plan::{Node, Plan, Time};
 use run::{Answer, Apart, Last, Mode, NodeState, Reckoned, Run, Step, Stepped};

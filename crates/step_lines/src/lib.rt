@@ -1,4 +1,6 @@
 // Step lines read: a step, or refusal 19.
+#![tactic(auto)]
+
 ghost use Rattle.std.specs.Prelude.{◌≡◌};
 ghost use Rattle.step_lines.specs.StepLine.{is_digit, line_of};
 ghost use Rattle.step_lines.specs.Reading.{number_after, reading_after, line_read};
@@ -8,14 +10,14 @@ use plan::LINE_WRONG;
 use run::Step;
 
 // What a line of input asks for.
-#[derive(Drop)]
+#[derive(Clone, Copy)]
 pub enum Line {
     Asks(Step),
     Refused(u8),
 }
 
 // What was read of a line so far.
-#[derive(Drop)]
+#[derive(Clone, Copy)]
 pub enum Reading {
     Nothing,
     // the letter

@@ -1,5 +1,7 @@
 // The stepping program: the first argument names a plan file, steps come on standard input, and each line gets one line,
 // `ok` or `refused` and its number. The plan is tested once; answers are written in blocks.
+#![tactic(auto)]
+
 ghost use Rattle.std.specs.Prelude.{◌≡◌, true, ◌<◌, length};
 ghost use Rattle.plan.specs.Tested.{Sound};
 ghost use Rattle.run.specs.State.{in_range};
@@ -12,7 +14,7 @@ use run::{Answer, Run, Stepped};
 use step_lines::{Line, Reading};
 
 // How far a line was read: what it is so far, the place after its last byte, and whether that byte was a newline.
-#[derive(Drop)]
+#[derive(Clone, Copy)]
 struct Scanned {
     reading: Reading,
     next: usize,
@@ -20,7 +22,7 @@ struct Scanned {
 }
 
 // What is carried from block to block: the run, the line that is not yet ended, and how many bytes of answers wait.
-#[derive(Drop)]
+#[derive(Clone, Copy)]
 struct Desk {
     run: Run,
     reading: Reading,

@@ -1,4 +1,6 @@
 // A step on a run: refused by the first of 1 to 16 that speaks against it, or done.
+#![tactic(auto)]
+
 ghost use Rattle.std.specs.Prelude.{◌≡◌, true, ltb, ◌+◌};
 ghost use Rattle.laws.specs.Below.{any_below};
 ghost use Rattle.laws.specs.Row.{first_given};

@@ -1,10 +1,12 @@
 // Text put into a lent buffer: a byte, a word, a word with a number after it. Each asks for the room that it takes; whether there is
 // so much room can be asked.
+#![tactic(auto)]
+
 ghost use Rattle.std.specs.Prelude.{◌≡◌, [], ◌∷◌, ◌++◌, ◌+◌, ◌≤◌, length, leb};
 ghost use Rattle.text.specs.Text.{decimal, Put};
 
 // Where a text ended that was written, or that there was no room for it and nothing was written.
-#[derive(Drop)]
+#[derive(Clone, Copy)]
 pub enum Wrote {
     To(usize),
     NoRoom,

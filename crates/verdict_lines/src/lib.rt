@@ -1,4 +1,6 @@
 // The five lines of a verdict.
+#![tactic(auto)]
+
 ghost use Rattle.std.specs.Prelude.{◌≡◌, cond, ◌+◌, ◌≤◌, length};
 ghost use Rattle.rules.specs.Rules.{holds};
 ghost use Rattle.text.specs.Text.{bytes, Put};

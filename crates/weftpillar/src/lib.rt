@@ -1,4 +1,6 @@
 // The library for C and Rust: calls on lent bytes, each total, none keeping anything from one call to the next.
+#![tactic(auto)]
+
 ghost use Rattle.std.specs.Prelude.{◌≡◌};
 ghost use Rattle.weftpillar.specs.Calls.{
   judge_answer,

@@ -1,6 +1,8 @@
 // Document 01's numbers to check, and the columns with three or four nodes of the source's Tables 2, 4 and 5, run and
 // compared: a line for each, which ends `same` or `DIFFERS`. Three columns of Table 4 differ, as document 01 says: two have
 // g + t + 2 above k0, and for the third a smaller pair is accepted too.
+#![tactic(auto)]
+
 use case_lines::{plan_by, slots_in_order, write_number, write_word};
 use plan::{Node, Plan, Slot};
 use rules::{Judged, Outcome};
