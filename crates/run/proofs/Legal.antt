@@ -18,7 +18,7 @@ use Rattle.run.specs.declared.Run.{Run}
 use Rattle.run.specs.declared.Step.{Step}
 use Rattle.run.specs.declared.Step.TheVariants.{Delay, TickOf, SendOf}
 use Rattle.run.specs.declared.Answer.{Answer}
-use Rattle.run.specs.declared.Answer.TheVariants.{Done, Refused}
+use Rattle.run.specs.declared.Answer.TheVariants.{Done}
 use Rattle.run.specs.State.{node, is_about, in_range, is_out_of_step}
 use Rattle.run.specs.Moves.{moved}
 use Rattle.run.specs.Steps.{step_rows, step_number, step_tested, step_of}

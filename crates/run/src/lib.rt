@@ -79,6 +79,7 @@ pub enum Reckoned {
 }
 
 // A run at its beginning: all numbers 0, all waiting, nothing pending, none sent.
+#[tactic(auto, unfolding(crate::specs::State::fresh_run))]
 pub fn fresh() -> Run
     ensures { result ≡ fresh_run }
 {

@@ -28,6 +28,7 @@ fn last_in_range(plan: Plan, last: Last) -> bool
 }
 
 // Every number of the run lies in its range; places from N on are not looked at.
+#[tactic(auto, using(laws::proofs::Belows::all_more, laws::proofs::Belows::all_none, laws::proofs::Belows::all_fails), unfolding(crate::specs::State::in_range))]
 pub fn in_range(plan: Plan, run: Run) -> bool
     requires { Sound plan }
     ensures { result ≡ in_range plan run }
