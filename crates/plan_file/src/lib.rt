@@ -32,6 +32,7 @@ fn wide32(x: u8) -> u32
     x as u32
 }
 
+#[tactic(auto, unfolding(crate::specs::File::be16_of))]
 pub fn be16(file: &[u8], at: usize) -> u16
     requires { at + 1 < length file.now }
     ensures { result ≡ be16_of file.now at }
@@ -39,6 +40,7 @@ pub fn be16(file: &[u8], at: usize) -> u16
     wide16(file[at]) * 256 + wide16(file[at + 1])
 }
 
+#[tactic(auto, unfolding(crate::specs::File::be32_of))]
 pub fn be32(file: &[u8], at: usize) -> u32
     requires { at + 3 < length file.now }
     ensures { result ≡ be32_of file.now at }
@@ -50,6 +52,7 @@ pub fn be32(file: &[u8], at: usize) -> u32
 }
 
 // Fewer than 5 bytes, or mark not `CSP`.
+#[tactic(auto, unfolding(crate::specs::File::mark_wrong))]
 fn mark_wrong(file: &[u8]) -> bool
     ensures { result ≡ mark_wrong file.now }
 {
@@ -66,6 +69,7 @@ fn mark_wrong(file: &[u8]) -> bool
 }
 
 // Fewer than 21 bytes, or length not 21 + 2 × N.
+#[tactic(auto, unfolding(crate::specs::File::is_length_wrong))]
 fn length_wrong(file: &[u8]) -> bool
     ensures { result ≡ is_length_wrong file.now }
 {
@@ -93,6 +97,7 @@ fn file_number(file: &[u8]) -> u8
 }
 
 // The sending slot at a place; 0 from N on.
+#[tactic(auto, unfolding(crate::specs::File::slot_at))]
 fn slot_at(file: &[u8], nodes: usize, place: usize) -> Slot
     requires { (nodes ≡ byte_at file.now 5) × (nodes ≤ 255) × (place < 32) × (21 + 2 * nodes ≤ length file.now) }
     ensures { result.0 ≡ slot_at file.now place }
@@ -116,6 +121,7 @@ fn slots_in(file: &[u8], nodes: usize) -> [Slot; 32]
 }
 
 // The plan that a file of the right length holds.
+#[tactic(auto, unfolding(crate::specs::File::plan_of))]
 fn plan_in(file: &[u8]) -> Plan
     requires { (21 ≤ length file.now) × (21 + 2 * byte_at file.now 5 ≤ length file.now) }
     ensures { result ≡ plan_of file.now }
@@ -134,6 +140,7 @@ fn plan_in(file: &[u8]) -> Plan
     }
 }
 
+#[tactic(auto, unfolding(crate::specs::File::no_plan))]
 fn no_plan() -> Plan
     ensures { result ≡ no_plan }
 {
