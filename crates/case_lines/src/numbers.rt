@@ -21,7 +21,7 @@ fn with_digit(value: u32, digit: u8) -> u32 {
 
 fn next_part(scan: Scan) -> Scan {
     Scan {
-        part: std::num::wrapping_add_u32(scan.part, 1),
+        part: scan.part.wrapping_add(1),
         ended: 0,
         inside: false,
         value: scan.value,
@@ -30,7 +30,7 @@ fn next_part(scan: Scan) -> Scan {
 
 fn no_digit(scan: Scan) -> Scan {
     let ended = if scan.inside {
-        std::num::wrapping_add_u32(scan.ended, 1)
+        scan.ended.wrapping_add(1)
     } else {
         scan.ended
     };

@@ -1,11 +1,11 @@
 // Words and numbers written out.
-use libc::STDOUT_FILENO;
+use std::io;
 
-pub fn write_word(word: &[u8]) {
-    io::write_all(STDOUT_FILENO, word);
+pub fn write_word(rt: &impl Print, word: &[u8]) -> io::Result<()> {
+    rt.write_all(word)
 }
 
-pub fn write_number(word: &[u8], n: u32) {
-    write_word(word);
-    io::print_decimal(STDOUT_FILENO, n as u64);
+pub fn write_number(rt: &impl Print, word: &[u8], n: u32) -> io::Result<()> {
+    write_word(rt, word)?;
+    print!(rt; "{n}")
 }

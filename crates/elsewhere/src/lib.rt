@@ -11,6 +11,7 @@ use plan::{Node, Plan, RUN_OUTSIDE, plan_number};
 use run::{Apart, Run, in_range, is_sending};
 
 // The lowest sending node; N where none is sending.
+#[tactic(auto, using(laws::proofs::Belows::before_more, laws::proofs::Belows::first_at, laws::proofs::Belows::first_none))]
 fn first_sending(plan: Plan, run: Run) -> Node
     requires { Sound plan }
     ensures { result.0 ≡ first_below plan.nodes.0 (λ i. is_sending (node run i).mode) }
@@ -27,6 +28,7 @@ fn first_sending(plan: Plan, run: Run) -> Node
 }
 
 // The lowest node in another slot than node i; N where there is none.
+#[tactic(auto, using(laws::proofs::Belows::before_more, laws::proofs::Belows::first_at, laws::proofs::Belows::first_none))]
 fn first_elsewhere(plan: Plan, run: Run, i: Node) -> Node
     requires sound { Sound plan }
     requires i_lt_nodes { i.0 < plan.nodes.0 }
@@ -44,6 +46,7 @@ fn first_elsewhere(plan: Plan, run: Run, i: Node) -> Node
 }
 
 // The out-of-step test of a plan that passed 1 to 9.
+#[tactic(auto, using(run::proofs::Apartness::in_step_silent, run::proofs::Apartness::in_step_together, run::proofs::Apartness::out_lowest))]
 pub fn apart_tested(plan: Plan, run: Run) -> Apart
     requires { Sound plan }
     ensures { result ≡ apart_tested plan run }
@@ -59,6 +62,7 @@ pub fn apart_tested(plan: Plan, run: Run) -> Apart
     Apart::Out(i, j)
 }
 
+#[tactic(auto, using(run::proofs::Apartness::out_of_step_told))]
 pub fn is_out_of_step(plan: Plan, run: Run) -> bool
     requires { Sound plan }
     ensures { result ≡ is_out_of_step plan run }
@@ -72,6 +76,7 @@ pub fn is_out_of_step(plan: Plan, run: Run) -> bool
 }
 
 // The out-of-step test of any plan on any run.
+#[tactic(auto, unfolding(run::specs::Steps::apart_of))]
 pub fn out_of_step(plan: Plan, run: Run) -> Apart
     ensures { result ≡ apart_of plan run }
 {

@@ -1,7 +1,7 @@
 -- The predecessor of a slot: the search backwards stops at a sending slot, and passes none.
 -- The idea: while another sending slot lies no nearer than the search has come, and nearer than it may go, it cannot run out.
 use Prim.Native.Nat.{ℕ, zero, suc, ◌+◌, ◌-◌, ◌≤◌, ◌<◌}
-use mathlib.Core.Path.{◌≡◌, refl, sym, ◌∙◌}
+use mathlib.Core.Path.{◌≡◌, refl, sym}
 use mathlib.Core.Logic.{◌≢◌}
 use mathlib.Core.Bool.{Bool, true, false}
 use native.Mathlib.Decide.{dec_le, ℕ_discrete}

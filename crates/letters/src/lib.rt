@@ -14,6 +14,7 @@ pub struct Spelt {
     pub number: u32,
 }
 
+#[tactic(auto, unfolding(crate::specs::Letters::spelt_of))]
 pub fn spell(step: Step) -> Spelt
     ensures { result ≡ spelt_of step }
 {
@@ -34,6 +35,7 @@ pub fn spell(step: Step) -> Spelt
 }
 
 // A letter that a step may have.
+#[tactic(auto, unfolding(crate::specs::Letters::is_letter))]
 pub fn is_letter(byte: u8) -> bool
     ensures { result ≡ is_letter byte }
 {

@@ -71,6 +71,7 @@ fn slots_ticks(plan: Plan, slots: Slot) -> u64
     slots.0 as u64 * plan.ticks.0 as u64
 }
 
+#[tactic(auto, unfolding(crate::specs::Rules::sides_at))]
 fn sides_one(plan: Plan, gap: Slot) -> Sides
     requires { (Sound plan) × (1 ≤ gap.0) × (gap.0 < plan.frame.0) }
     ensures { result ≡ sides_at plan gap.0 One }
@@ -82,6 +83,7 @@ fn sides_one(plan: Plan, gap: Slot) -> Sides
     }
 }
 
+#[tactic(auto, unfolding(crate::specs::Rules::sides_at))]
 fn sides_two(plan: Plan, gap: Slot) -> Sides
     requires { (Sound plan) × (1 ≤ gap.0) × (gap.0 < plan.frame.0) }
     ensures { result ≡ sides_at plan gap.0 Two }
@@ -94,6 +96,7 @@ fn sides_two(plan: Plan, gap: Slot) -> Sides
     }
 }
 
+#[tactic(auto, unfolding(crate::specs::Rules::sides_at))]
 fn sides_three(plan: Plan, gap: Slot) -> Sides
     requires { Sound plan }
     ensures { result ≡ sides_at plan gap.0 Three }
@@ -117,6 +120,7 @@ pub fn rule_number(rule: Rule) -> u8
     }
 }
 
+#[tactic(auto, unfolding(crate::specs::Rules::outcome_by))]
 fn outcome_by(one: Sides, two: Sides, three: Sides) -> Outcome
     ensures { result ≡ outcome_by one two three }
 {
@@ -133,6 +137,7 @@ fn outcome_by(one: Sides, two: Sides, three: Sides) -> Outcome
 }
 
 // The verdict of a tested plan with the gap M.
+#[tactic(auto, unfolding(crate::specs::Rules::verdict_at, crate::specs::Rules::verdict_of))]
 pub fn verdict_tested(plan: Plan, gap: Slot) -> Verdict
     requires { (plan_number plan ≡ 0) × (gap.0 ≡ gap_of plan) }
     ensures { result ≡ verdict_of plan }
@@ -164,6 +169,7 @@ pub fn prepare(plan: Plan) -> Prepared
 }
 
 // The judge: any plan to its verdict, or to the first of refusals 1 to 9 that speaks against it.
+#[tactic(auto, unfolding(crate::specs::Rules::judged_of))]
 pub fn judge(plan: Plan) -> Judged
     ensures { result ≡ judged_of plan }
 {

@@ -8,6 +8,9 @@ use lines::Wrote;
 use plan::Plan;
 use run::{Run, Step};
 use shown::{Mark, Next, Place};
+use std::io;
+use std::rt::Files;
+use streams::read_file_start;
 
 // By its word's first letter.
 fn mark_in(letter: u8) -> Mark {
@@ -20,47 +23,48 @@ fn mark_in(letter: u8) -> Mark {
     Mark::After
 }
 
-fn mark_word(mark: Mark) {
+fn mark_word(rt: &impl Print, mark: Mark) -> io::Result<()> {
     match mark {
-        Mark::Before => write_word(b"before"),
-        Mark::In => write_word(b"in"),
-        Mark::After => write_word(b"after"),
+        Mark::Before => write_word(rt, b"before"),
+        Mark::In => write_word(rt, b"in"),
+        Mark::After => write_word(rt, b"after"),
     }
 }
 
-fn line(out: &[u8], wrote: Wrote) {
+fn line(rt: &impl Print, out: &[u8], wrote: Wrote) -> io::Result<()> {
     match wrote {
         Wrote::To(end) => {
             if end <= out.len() {
-                write_word(&out[0..end]);
+                write_word(rt, &out[0..end])?;
             }
+            Ok(())
         }
-        Wrote::NoRoom => {}
+        Wrote::NoRoom => Ok(()),
     }
 }
 
-fn step_line(step: Step) {
+fn step_line(rt: &impl Print, step: Step) -> io::Result<()> {
     let mut out = [0u8; 32];
     let wrote = lines::write_step(&mut out, 0, step);
-    line(&out, wrote);
+    line(rt, &out, wrote)
 }
 
-fn refused_line(number: u8) {
+fn refused_line(rt: &impl Print, number: u8) -> io::Result<()> {
     let mut out = [0u8; 32];
     let wrote = lines::write_refused(&mut out, 0, number);
-    line(&out, wrote);
+    line(rt, &out, wrote)
 }
 
-fn next_line(next: Next) {
+fn next_line(rt: &impl Print, next: Next) -> io::Result<()> {
     match next {
-        Next::Takes(step) => step_line(step),
-        Next::Finished => write_word(b"finished\n"),
-        Next::Refused(number) => refused_line(number),
+        Next::Takes(step) => step_line(rt, step),
+        Next::Finished => write_word(rt, b"finished\n"),
+        Next::Refused(number) => refused_line(rt, number),
     }
 }
 
 // The mark before and after, and the step between them.
-fn answered(plan: Plan, run: Run, mark: Mark) {
+fn answered(rt: &impl Print, plan: Plan, run: Run, mark: Mark) -> io::Result<()> {
     let given = shown_next::next_shown(
         plan,
         Place {
@@ -68,59 +72,55 @@ fn answered(plan: Plan, run: Run, mark: Mark) {
             mark: mark,
         },
     );
-    mark_word(mark);
-    write_word(b" to ");
+    mark_word(rt, mark)?;
+    write_word(rt, b" to ")?;
     let after = given.place;
     let turned = after.mark;
-    mark_word(turned);
-    write_word(b", ");
+    mark_word(rt, turned)?;
+    write_word(rt, b", ")?;
     let next = given.next;
-    next_line(next);
+    next_line(rt, next)
 }
 
 // A place: the next step there.
-fn place_case(name: &[u8], parts: &[u8]) {
-    write_word(name);
-    write_word(b": ");
+fn place_case(rt: &impl Print, name: &[u8], parts: &[u8]) -> io::Result<()> {
+    write_word(rt, name)?;
+    write_word(rt, b": ")?;
     let plan = case_lines::plan_in(parts);
     let run = case_lines::run_in(parts);
     let mark = mark_in(asked(parts));
-    answered(plan, run, mark);
+    answered(rt, plan, run, mark)
 }
 
 // A plan file: what the judging program writes of it.
-fn run_case(name: &[u8]) {
-    write_word(b"plan ");
-    write_word(name);
-    write_word(b"\n");
-    let mut file = io::buffer();
-    let fd = os::open_read(name);
-    let n = io::read_full(fd, &mut file);
-    libc::close(fd);
-    judging::tell(&file[..n]);
+fn run_case(rt: &(impl Print + Files), name: &[u8]) -> io::Result<()> {
+    write_word(rt, b"plan ")?;
+    write_word(rt, name)?;
+    write_word(rt, b"\n")?;
+    let mut file = [0u8; 4096];
+    let n = read_file_start(rt, name, &mut file);
+    judging::tell(rt, &file[..n])
 }
 
-fn case(name: &[u8], parts: &[u8]) {
+fn case(rt: &(impl Print + Files), name: &[u8], parts: &[u8]) -> io::Result<()> {
     if asked(parts) == b'f' {
-        run_case(name);
-        return;
+        return run_case(rt, name);
     }
-    place_case(name, parts);
+    place_case(rt, name, parts)
 }
 
-fn cases(list: &[u8]) {
+fn cases(rt: &(impl Print + Files), list: &[u8]) -> io::Result<()> {
     let mut from = 0;
     while from < list.len() {
         let line = case_lines::line_at(list, from);
-        case(case_lines::name(line), case_lines::parts(line));
+        case(rt, case_lines::name(line), case_lines::parts(line))?;
         from = from + line.len() + 1;
     }
+    Ok(())
 }
 
-fn main() {
-    let mut list = io::large_buffer();
-    let fd = os::open_read(b"cases");
-    let n = io::read_full(fd, &mut list);
-    libc::close(fd);
-    cases(&list[..n]);
+fn main(rt: HostRuntime) -> io::Result<()> {
+    let mut list = [0u8; 65536];
+    let n = read_file_start(&rt, b"cases", &mut list);
+    cases(&rt, &list[..n])
 }

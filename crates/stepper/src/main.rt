@@ -2,16 +2,19 @@
 // `ok` or `refused` and its number. The plan is tested once; answers are written in blocks.
 #![tactic(auto)]
 
-ghost use Rattle.std.specs.Prelude.{◌≡◌, true, ◌<◌, length};
+ghost use Rattle.std.specs.Prelude.{◌≡◌, true, ◌<◌, length, IfOk};
 ghost use Rattle.plan.specs.Tested.{Sound};
 ghost use Rattle.run.specs.State.{in_range};
 
-use libc::{STDIN_FILENO, STDOUT_FILENO};
 use lines::Wrote;
 use plan::Plan;
 use plan_file::Read;
 use run::{Answer, Run, Stepped};
+use std::env::Env;
+use std::io;
+use std::io::Read as _;
 use step_lines::{Line, Reading};
+use streams::read_file_start;
 
 // How far a line was read: what it is so far, the place after its last byte, and whether that byte was a newline.
 #[derive(Clone, Copy)]
@@ -69,33 +72,45 @@ fn answered(plan: Plan, run: Run, line: Line) -> Stepped
     }
 }
 
-fn flushed(out: &[u8], waiting: usize) {
+fn flushed(rt: &impl Print, out: &[u8], waiting: usize) -> io::Result<()> {
     if waiting <= out.len() {
-        io::write_all(STDOUT_FILENO, &out[..waiting]);
+        rt.write_all(&out[..waiting])?;
     }
+    Ok(())
 }
 
 // Room for a line of answer: what waits is written out where the buffer is nearly full.
-fn with_room(out: &[u8], waiting: usize) -> usize {
+fn with_room(rt: &impl Print, out: &[u8], waiting: usize) -> io::Result<usize> {
     if text::has_room(out.len(), waiting, 32) {
-        return waiting;
+        return Ok(waiting);
     }
-    flushed(out, waiting);
-    0
+    flushed(rt, out, waiting)?;
+    Ok(0)
 }
 
-fn put_answer(out: &mut [u8], waiting: usize, answer: Answer) -> usize {
-    let at = with_room(out, waiting);
+fn put_answer(
+    rt: &impl Print,
+    out: &mut [u8],
+    waiting: usize,
+    answer: Answer,
+) -> io::Result<usize> {
+    let at = with_room(rt, out, waiting)?;
     match lines::write_answer(out, at, answer) {
-        Wrote::To(next) => next,
-        Wrote::NoRoom => at,
+        Wrote::To(next) => Ok(next),
+        Wrote::NoRoom => Ok(at),
     }
 }
 
 // Every line that ends in the block is answered.
-fn block_done(plan: Plan, desk: Desk, block: &[u8], out: &mut [u8]) -> Desk
+fn block_done(
+    rt: &impl Print,
+    plan: Plan,
+    desk: Desk,
+    block: &[u8],
+    out: &mut [u8],
+) -> io::Result<Desk>
     requires { (Sound plan) × (in_range plan desk.run ≡ true) }
-    ensures { in_range plan result.run ≡ true }
+    ensures { IfOk result (λ after. in_range plan after.run ≡ true) }
 {
     let mut run = desk.run;
     let mut reading = desk.reading;
@@ -106,91 +121,90 @@ fn block_done(plan: Plan, desk: Desk, block: &[u8], out: &mut [u8]) -> Desk
         let line = scan.reading;
         at = scan.next;
         if !scan.ended {
-            return Desk {
+            return Ok(Desk {
                 run: run,
                 reading: line,
                 waiting: waiting,
-            };
+            });
         }
         let done = answered(plan, run, step_lines::reading_end(line));
         let answer = done.answer;
-        waiting = put_answer(out, waiting, answer);
+        waiting = put_answer(rt, out, waiting, answer)?;
         let moved = done.run;
         run = moved;
         reading = Reading::Nothing;
     }
-    Desk {
+    Ok(Desk {
         run: run,
         reading: reading,
         waiting: waiting,
-    }
+    })
 }
 
 // A last line without its newline is a line of another shape; nothing after the last newline is no line.
-fn last_line(desk: Desk, out: &mut [u8]) {
+fn last_line(rt: &impl Print, desk: Desk, out: &mut [u8]) -> io::Result<()> {
     let reading = desk.reading;
     let waiting = desk.waiting;
     if let Reading::Nothing = reading {
-        return;
+        return Ok(());
     }
-    let at = put_answer(out, waiting, Answer::Refused(plan::LINE_WRONG));
-    flushed(out, at);
+    let at = put_answer(rt, out, waiting, Answer::Refused(plan::LINE_WRONG))?;
+    flushed(rt, out, at)
 }
 
-// Blocks as they come, until the input ends.
-fn all_steps(plan: Plan)
+// Blocks as they come, until the input ends; a read that fails counts as its end.
+fn all_steps(rt: &HostRuntime, plan: Plan) -> io::Result<()>
     requires { Sound plan }
 {
-    let mut out = io::large_buffer();
+    let mut out = [0u8; 65536];
     let mut desk = Desk {
         run: run::fresh(),
         reading: Reading::Nothing,
         waiting: 0,
     };
+    let mut input = rt.stdin();
     let mut turns = u64::MAX;
     while turns > 0 {
-        let mut block = io::buffer();
-        let got = libc::read(STDIN_FILENO, &mut block);
-        let n = io::count(got, &block);
+        let mut block = [0u8; 4096];
+        let n = input.read(&mut block).unwrap_or(0);
         if n == 0 {
-            last_line(desk, &mut out);
-            return;
+            return last_line(rt, desk, &mut out);
         }
-        let next = block_done(plan, desk, &block[..n], &mut out);
-        flushed(&out, next.waiting);
+        let next = block_done(rt, plan, desk, &block[..n], &mut out)?;
+        flushed(rt, &out, next.waiting)?;
         desk = next;
         desk.waiting = 0;
         turns = turns - 1;
     }
+    Ok(())
 }
 
-fn refused(answer: Read) {
+fn refused(rt: &impl Print, answer: Read) -> io::Result<()> {
     if let Read::Refused(k) = answer {
         let mut out = [0u8; 32];
         if let Wrote::To(n) = lines::write_refused(&mut out, 0, k) {
-            flushed(&out, n);
+            flushed(rt, &out, n)?;
         }
     }
+    Ok(())
 }
 
-fn on_plan_file(file: &[u8]) {
+fn on_plan_file(rt: &HostRuntime, file: &[u8]) -> io::Result<()> {
     let read = plan_file::read_plan(file);
     let answer = read.answer;
     let Read::Taken = answer else {
-        refused(answer);
-        return;
+        return refused(rt, answer);
     };
     let plan = read.plan;
-    all_steps(plan);
+    all_steps(rt, plan)
 }
 
-// A file that can't be read counts as empty; of a file longer than any plan file no more is read than shows that it is.
-fn main() {
-    let mut path = io::buffer();
-    let length = os::arg(1, &mut path);
-    let fd = os::open_read(&path[..length]);
-    let mut file = io::buffer();
-    let n = io::read_full(fd, &mut file);
-    libc::close(fd);
-    on_plan_file(&file[..n]);
+// A file that can't be read counts as empty, and so does one without a name; of a file longer than any plan file no more is read
+// than shows that it is.
+fn main(rt: HostRuntime) -> io::Result<()> {
+    let mut path = [0u8; 4096];
+    let length = rt.arg(1, &mut path).unwrap_or(0);
+    let mut file = [0u8; 4096];
+    let n = read_file_start(&rt, &path[..length], &mut file);
+    on_plan_file(&rt, &file[..n])
 }

@@ -6,6 +6,7 @@
 use case_lines::{plan_by, slots_in_order, write_number, write_word};
 use plan::{Node, Plan, Slot};
 use rules::{Judged, Outcome};
+use std::io;
 
 // N, C, n, k0, g, t; the source's min, whose max is one more; the table's number. Node i sends in slot i.
 const COLUMNS: [[u32; 10]; 20] = [
@@ -81,24 +82,22 @@ fn gap_number(judged: Judged) -> u32 {
     }
 }
 
-fn same(yes: bool) {
+fn same(rt: &impl Print, yes: bool) -> io::Result<()> {
     if yes {
-        write_word(b" same\n");
+        write_word(rt, b" same\n")
     } else {
-        write_word(b" DIFFERS\n");
+        write_word(rt, b" DIFFERS\n")
     }
 }
 
-fn judged_word(n: u32) {
+fn judged_word(rt: &impl Print, n: u32) -> io::Result<()> {
     if n == 0 {
-        write_word(b" accepted");
-        return;
+        return write_word(rt, b" accepted");
     }
     if n < 100 {
-        write_number(b" rule ", n);
-        return;
+        return write_number(rt, b" rule ", n);
     }
-    write_number(b" refused ", n - 100);
+    write_number(rt, b" refused ", n - 100)
 }
 
 // A row begins with N, C, n, k0, g, t.
@@ -107,25 +106,25 @@ fn plan_of(c: [u32; 10], min: u32, max: u32) -> Plan {
     plan_by([c[0], c[1], c[2], c[3], c[4], c[5], min, max], slots)
 }
 
-fn plan_words(c: [u32; 10]) {
-    write_number(b" N ", c[0]);
-    write_number(b" C ", c[1]);
-    write_number(b" k0 ", c[3]);
-    write_number(b" g ", c[4]);
-    write_number(b" t ", c[5]);
+fn plan_words(rt: &impl Print, c: [u32; 10]) -> io::Result<()> {
+    write_number(rt, b" N ", c[0])?;
+    write_number(rt, b" C ", c[1])?;
+    write_number(rt, b" k0 ", c[3])?;
+    write_number(rt, b" g ", c[4])?;
+    write_number(rt, b" t ", c[5])
 }
 
-fn case(c: [u32; 10]) {
+fn case(rt: &impl Print, c: [u32; 10]) -> io::Result<()> {
     let judged = rules::judge(plan_of(c, c[6], c[7]));
     let gap = gap_number(judged);
     let outcome = judged_number(judged);
-    write_word(b"case");
-    plan_words(c);
-    write_number(b" ", c[6]);
-    write_number(b"/", c[7]);
-    write_number(b": gap ", gap);
-    judged_word(outcome);
-    same(gap == c[8] && outcome == c[9]);
+    write_word(rt, b"case")?;
+    plan_words(rt, c)?;
+    write_number(rt, b" ", c[6])?;
+    write_number(rt, b"/", c[7])?;
+    write_number(rt, b": gap ", gap)?;
+    judged_word(rt, outcome)?;
+    same(rt, gap == c[8] && outcome == c[9])
 }
 
 fn one_more(n: u32) -> u32 {
@@ -146,33 +145,33 @@ fn smallest(c: [u32; 10]) -> u32 {
     1000
 }
 
-fn smallest_word(found: u32) {
+fn smallest_word(rt: &impl Print, found: u32) -> io::Result<()> {
     if found < 1000 {
-        write_number(b", smallest ", found);
-        return;
+        return write_number(rt, b", smallest ", found);
     }
-    write_word(b", smallest none");
+    write_word(rt, b", smallest none")
 }
 
-fn column(c: [u32; 10]) {
-    write_number(b"table ", c[7]);
-    plan_words(c);
-    write_number(b": source ", c[6]);
-    judged_word(column_judged(c, c[6]));
+fn column(rt: &impl Print, c: [u32; 10]) -> io::Result<()> {
+    write_number(rt, b"table ", c[7])?;
+    plan_words(rt, c)?;
+    write_number(rt, b": source ", c[6])?;
+    judged_word(rt, column_judged(c, c[6]))?;
     let found = smallest(c);
-    smallest_word(found);
-    same(found == c[6]);
+    smallest_word(rt, found)?;
+    same(rt, found == c[6])
 }
 
-fn main() {
+fn main(rt: HostRuntime) -> io::Result<()> {
     let cases = CASES;
     for i in 0..18 {
         let c = cases[i];
-        case(c);
+        case(&rt, c)?;
     }
     let columns = COLUMNS;
     for i in 0..20 {
         let c = columns[i];
-        column(c);
+        column(&rt, c)?;
     }
+    Ok(())
 }
