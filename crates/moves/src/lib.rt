@@ -10,6 +10,7 @@ use plan::{Node, Plan, Slot, Tick, Time};
 use run::{Last, Mode, NodeState, Run};
 
 // The clock after a tick on clock c0: g + 1 if a message was pending, otherwise one more, modulo k0.
+#[tactic(auto, unfolding(run::specs::Moves::clock_after))]
 fn clock_after(plan: Plan, pending: bool, c0: Tick) -> Tick
     requires sound { Sound plan }
     requires c0_lt_ticks { c0.0 < plan.ticks.0 }
@@ -22,6 +23,7 @@ fn clock_after(plan: Plan, pending: bool, c0: Tick) -> Tick
 }
 
 // The mode after it. Waiting in its own slot with c0 = g − 1: about to send. Sending with c0 = k0 − t − 1: waiting.
+#[tactic(auto, unfolding(run::specs::Moves::mode_after))]
 fn mode_after(plan: Plan, own: Slot, c0: Tick, slot: Slot, mode: Mode) -> Mode
     requires { Sound plan }
     ensures { result ≡ mode_after plan own.0 c0.0 slot.0 mode }
@@ -47,6 +49,7 @@ fn mode_after(plan: Plan, own: Slot, c0: Tick, slot: Slot, mode: Mode) -> Mode
 }
 
 // The slot number after it. Waiting with c0 = k0 − 1: one more, modulo C.
+#[tactic(auto, unfolding(run::specs::Moves::slot_after))]
 fn slot_after(plan: Plan, c0: Tick, slot: Slot, mode: Mode) -> Slot
     requires sound { Sound plan }
     requires slot_lt_frame { slot.0 < plan.frame.0 }
@@ -65,6 +68,7 @@ fn slot_after(plan: Plan, c0: Tick, slot: Slot, mode: Mode) -> Slot
 }
 
 // All decided on the clock before the tick, the pending mark cleared.
+#[tactic(auto, using(run::proofs::Ranges::within_node))]
 fn node_ticked(plan: Plan, own: Slot, node: NodeState) -> NodeState
     requires sound { Sound plan }
     requires node_value { node_in_range plan node ≡ true }
@@ -85,6 +89,7 @@ fn node_ticked(plan: Plan, own: Slot, node: NodeState) -> NodeState
     }
 }
 
+#[tactic(auto, using(run::proofs::Ranges::node_within, run::proofs::Ranges::range_node))]
 pub fn ticked(plan: Plan, run: Run, i: Node) -> Run
     requires sound { Sound plan }
     requires run_value { in_range plan run ≡ true }
