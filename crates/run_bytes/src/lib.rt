@@ -52,6 +52,7 @@ fn mode_byte(mode: Mode) -> u8
     }
 }
 
+#[tactic(auto, unfolding(crate::specs::RunBytes::mode_in))]
 fn mode_in(byte: u8) -> Mode
     ensures { result ≡ mode_in byte }
 {
@@ -73,6 +74,7 @@ fn flag_byte(flag: bool) -> u8
     0
 }
 
+#[tactic(auto, unfolding(crate::specs::RunBytes::node_in))]
 fn node_in(bytes: &[u8], at: usize) -> NodeState
     requires { at + 9 ≤ length bytes.now }
     ensures { result ≡ node_in bytes.now at }
@@ -86,6 +88,7 @@ fn node_in(bytes: &[u8], at: usize) -> NodeState
     }
 }
 
+#[tactic(auto, unfolding(crate::specs::RunBytes::last_in))]
 fn last_in(bytes: &[u8]) -> Last
     requires { 291 ≤ length bytes.now }
     ensures { result ≡ last_in bytes.now }
@@ -155,6 +158,7 @@ pub fn write_run(bytes: &mut [u8], nodes: usize, run: Run)
     write_last(bytes, last);
 }
 
+#[tactic(auto, unfolding(crate::specs::RunBytes::node_wrong))]
 fn node_wrong(bytes: &[u8], at: usize) -> bool
     requires { at + 9 ≤ length bytes.now }
     ensures { result ≡ node_wrong bytes.now at }

@@ -1,6 +1,6 @@
 -- Document 01's listing, and worked runs for each rule, come out of the definitions by computing. The steps were worked out
 -- apart from the definitions, by a reading of document 01 that goes by rounds and moments and not by places.
-use Prim.Native.Nat.{ℕ, ◌+◌}
+use Prim.Native.Nat.{◌+◌}
 use mathlib.Core.Path.{◌≡◌, refl}
 use mathlib.Core.List.{List, [], ◌∷◌}
 use lib.ListN.{length}

@@ -45,6 +45,7 @@ pub struct Given {
 }
 
 // Where a shown run begins: a fresh run, before the pivot.
+#[tactic(auto, unfolding(crate::specs::Shown::fresh_place))]
 pub fn fresh_place() -> Place
     ensures { result ≡ fresh_place }
 {
