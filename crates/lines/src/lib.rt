@@ -20,6 +20,7 @@ pub fn put_refused(out: &mut [u8], at: usize, number: u8) -> usize
     put_ended(out, at, b"refused ", number as u32)
 }
 
+#[tactic(auto, unfolding(crate::specs::Lines::step_text))]
 fn put_step(out: &mut [u8], at: usize, step: Step) -> usize
     requires { at + 13 ≤ length out.old }
     ensures { Put 13 out.old at (step_text step) out.new result }
@@ -29,6 +30,7 @@ fn put_step(out: &mut [u8], at: usize, step: Step) -> usize
     put_ended(out, first, b" ", spelt.number)
 }
 
+#[tactic(auto, unfolding(crate::specs::Lines::answer_text))]
 fn put_answer(out: &mut [u8], at: usize, answer: Answer) -> usize
     requires { at + 19 ≤ length out.old }
     ensures { Put 19 out.old at (answer_text answer) out.new result }
@@ -39,6 +41,7 @@ fn put_answer(out: &mut [u8], at: usize, answer: Answer) -> usize
     }
 }
 
+#[tactic(auto, unfolding(crate::specs::Lines::out_text))]
 fn put_out(out: &mut [u8], at: usize, a: u32, b: u32) -> usize
     requires { at + 26 ≤ length out.old }
     ensures { Put 26 out.old at (out_text a b) out.new result }

@@ -1,4 +1,3 @@
 // Every public function's promise leaves one answer, and one content of what was lent; `judging::tell` alone has none.
 // What that means in specs/, the list with its proofs in proofs/; there is no code.
 #![tactic(auto)]
-

@@ -10,6 +10,7 @@ use plan::{NODE_UNKNOWN, Node, Plan, RECKONING_BELOW_0, RUN_OUTSIDE, Slot, plan_
 use run::{Last, NodeState, Reckoned, Run, in_range};
 
 // The last message's slot, nothing pending, clock below g.
+#[tactic(auto, unfolding(run::specs::Reckoning::below_zero))]
 fn below_zero(plan: Plan, last: Last, node: NodeState) -> bool
     ensures { result ≡ below_zero plan last node }
 {
@@ -28,6 +29,7 @@ fn below_zero(plan: Plan, last: Last, node: NodeState) -> bool
 }
 
 // The ticks since the beginning of slot p: ((slot − p) modulo C)·k0 + clock.
+#[tactic(auto, unfolding(laws::specs::Ring::distance))]
 fn ticks_from(plan: Plan, p: Slot, node: NodeState) -> u32
     requires sound { Sound plan }
     requires node_value { node_in_range plan node ≡ true }
@@ -39,6 +41,7 @@ fn ticks_from(plan: Plan, p: Slot, node: NodeState) -> u32
 }
 
 // The clock, if no message was sent; 0 if one is pending; otherwise the ticks since the last message's slot began, less g.
+#[tactic(auto, unfolding(run::specs::Reckoning::reckoning))]
 fn ticks_reckoned(plan: Plan, last: Last, node: NodeState) -> u32
     requires sound { Sound plan }
     requires node_value { node_in_range plan node ≡ true }
@@ -58,6 +61,7 @@ fn ticks_reckoned(plan: Plan, last: Last, node: NodeState) -> u32
 }
 
 // Which of 10, 12 and 17 speaks first against a reckoning; 0 where none does.
+#[tactic(auto, unfolding(run::specs::Reckoning::reckoning_number, laws::specs::Row::first_given))]
 fn reckoning_number(plan: Plan, run: Run, i: Node) -> u8
     requires { Sound plan }
     ensures { result ≡ reckoning_number plan run i.0 }
@@ -77,6 +81,7 @@ fn reckoning_number(plan: Plan, run: Run, i: Node) -> u8
 }
 
 // The reckoning of a plan that passed 1 to 9.
+#[tactic(auto, unfolding(run::specs::Reckoning::reckoned_tested))]
 pub fn reckon_tested(plan: Plan, run: Run, i: Node) -> Reckoned
     requires { Sound plan }
     ensures { result ≡ reckoned_tested plan run i.0 }
@@ -92,6 +97,7 @@ pub fn reckon_tested(plan: Plan, run: Run, i: Node) -> Reckoned
 }
 
 // A node's reckoning, of any plan on any run.
+#[tactic(auto, unfolding(run::specs::Reckoning::reckoned_of))]
 pub fn reckon(plan: Plan, run: Run, node: Node) -> Reckoned
     ensures { result ≡ reckoned_of plan run node.0 }
 {

@@ -62,6 +62,7 @@ fn number_after(letter: u8, number: u32, byte: u8) -> Reading
 }
 
 // A line read so far, and one byte more.
+#[tactic(auto, unfolding(crate::specs::Reading::reading_after))]
 pub fn reading_byte(reading: Reading, byte: u8) -> Reading
     ensures { result ≡ reading_after reading byte }
 {
@@ -91,6 +92,7 @@ pub fn reading_byte(reading: Reading, byte: u8) -> Reading
 }
 
 // What a line asks for that ends here.
+#[tactic(auto, unfolding(crate::specs::Reading::line_read))]
 pub fn reading_end(reading: Reading) -> Line
     ensures { result ≡ line_read reading }
 {

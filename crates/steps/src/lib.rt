@@ -19,6 +19,7 @@ use plan::{
 use run::{Answer, Run, Step, Stepped, in_range, is_about};
 
 // Some node is about to send.
+#[tactic(auto, using(laws::proofs::Belows::any_more, laws::proofs::Belows::any_none, laws::proofs::Belows::any_found))]
 fn some_about(plan: Plan, run: Run) -> bool
     requires { Sound plan }
     ensures { result ≡ any_below plan.nodes.0 (λ i. is_about (node run i).mode) }
@@ -35,6 +36,7 @@ fn some_about(plan: Plan, run: Run) -> bool
 }
 
 // Some node would pass max.
+#[tactic(auto, using(laws::proofs::Belows::any_more, laws::proofs::Belows::any_none, laws::proofs::Belows::any_found))]
 fn some_past_max(plan: Plan, run: Run, d: Time) -> bool
     requires sound { Sound plan }
     requires run_value { in_range plan run ≡ true }
@@ -51,6 +53,7 @@ fn some_past_max(plan: Plan, run: Run, d: Time) -> bool
 }
 
 // Which of 15 and 14 speaks first against a delay; 0 where neither does.
+#[tactic(auto, unfolding(laws::specs::Row::first_given))]
 fn delay_number(plan: Plan, run: Run, d: Time) -> u8
     requires sound { Sound plan }
     requires run_value { in_range plan run ≡ true }
@@ -69,6 +72,7 @@ fn delay_number(plan: Plan, run: Run, d: Time) -> u8
 }
 
 // Which of 12 and 13 speaks first against a tick; 0 where neither does.
+#[tactic(auto, unfolding(laws::specs::Row::first_given))]
 fn tick_number(plan: Plan, run: Run, i: Node) -> u8
     requires { Sound plan }
     ensures { result ≡ first_given (step_rows plan run (TickOf i)) }
@@ -84,6 +88,7 @@ fn tick_number(plan: Plan, run: Run, i: Node) -> u8
 }
 
 // Which of 12 and 16 speaks first against a send; 0 where neither does.
+#[tactic(auto, unfolding(laws::specs::Row::first_given))]
 fn send_number(plan: Plan, run: Run, i: Node) -> u8
     requires { Sound plan }
     ensures { result ≡ first_given (step_rows plan run (SendOf i)) }
@@ -100,6 +105,7 @@ fn send_number(plan: Plan, run: Run, i: Node) -> u8
 }
 
 // The first refusal from 11 on that speaks against a step; 0 where the step is legal.
+#[tactic(auto, unfolding(laws::specs::Row::first_given, run::specs::Steps::step_number))]
 fn step_number(plan: Plan, run: Run, step: Step) -> u8
     requires sound { Sound plan }
     requires run_value { in_range plan run ≡ true }
@@ -138,6 +144,7 @@ fn refused(run: Run, number: u8) -> Stepped
 }
 
 // A step of a plan that passed 1 to 9 on a run that passed 10. The run after it passes 10 again, so step follows step with no test of either.
+#[tactic(auto, unfolding(run::specs::Steps::step_tested))]
 pub fn step_in_range(plan: Plan, run: Run, step: Step) -> Stepped
     requires sound { Sound plan }
     requires run_value { in_range plan run ≡ true }
@@ -155,6 +162,7 @@ pub fn step_in_range(plan: Plan, run: Run, step: Step) -> Stepped
 }
 
 // A step of a plan that passed 1 to 9.
+#[tactic(auto, unfolding(run::specs::Steps::step_tested, run::specs::Steps::step_number, laws::specs::Row::first_given))]
 pub fn step_tested(plan: Plan, run: Run, step: Step) -> Stepped
     requires { Sound plan }
     ensures { result ≡ step_tested plan run step }
@@ -166,6 +174,7 @@ pub fn step_tested(plan: Plan, run: Run, step: Step) -> Stepped
 }
 
 // A step of any plan on any run.
+#[tactic(auto, unfolding(run::specs::Steps::step_of))]
 pub fn step(plan: Plan, run: Run, step: Step) -> Stepped
     ensures { result ≡ step_of plan run step }
 {

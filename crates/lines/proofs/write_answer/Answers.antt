@@ -1,0 +1,14 @@
+-- Room for 32 bytes is room for the 19 that an answer may have; with less room nothing is put.
+use Rattle.std.proofs.Common.{sym, ◌∙◌}
+use Rattle.text.proofs.Written.{wrote, no_room}
+use Rattle.lines.proofs.write_answer.Goals as goal
+
+pub returns-then-has_room : goal.returns-then-has_room
+returns-then-has_room c =
+    let put = wrote 32 (sym c.has_room.ensures ∙ c.if-has_room.true) c.put_answer.ensures in
+    record { value = put.0; out_after = put.1 }
+
+pub returns : goal.returns
+returns c =
+    let none = no_room 32 _ _ _ (sym c.has_room.ensures ∙ c.if-has_room.false) in
+    record { value = none.0; out_after = none.1 }
