@@ -13,7 +13,6 @@ use Rattle.plan.specs.declared.Node.{Node}
 use Rattle.plan.specs.declared.Time.{Time}
 use Rattle.run.specs.declared.Step.{Step}
 use Rattle.run.specs.declared.Step.TheVariants.{Delay, TickOf, SendOf}
-use Rattle.run.specs.declared.Run.{Run}
 use Rattle.run.specs.State.{node, is_about, is_sending, sends_apart, is_out_of_step}
 use Rattle.shown.specs.declared.Parts.{Parts}
 use Rattle.shown.specs.declared.Place.{Place}

@@ -34,6 +34,7 @@ pub enum Looked {
 }
 
 // The time since tick at which node i is due.
+#[tactic(auto, unfolding(shown::specs::Shown::due_time))]
 pub fn due_time(plan: Plan, parts: Parts, mark: Mark, i: Node) -> Time
     ensures { result.0 ≡ due_time plan parts mark i.0 }
 {
@@ -60,6 +61,7 @@ pub fn guard_ends(plan: Plan, w: Slot, node: NodeState) -> bool
 }
 
 // A tick now would make a node about to send that sends in slot `own`.
+#[tactic(auto, unfolding(run::specs::Moves::mode_after))]
 fn turns(plan: Plan, own: Slot, node: NodeState) -> bool
     ensures { result ≡ is_about (mode_after plan own.0 node.clock.0 node.slot.0 node.mode) }
 {
@@ -72,6 +74,7 @@ fn turns(plan: Plan, own: Slot, node: NodeState) -> bool
 }
 
 // Node i, with this sending slot and state, is among those who tick first.
+#[tactic(auto, unfolding(shown::specs::Shown::goes_first))]
 fn goes_first(plan: Plan, parts: Parts, mark: Mark, i: Node, slot: Slot, state: NodeState) -> bool
     requires { slot.0 ≡ own plan i.0 }
     ensures { (run : Run) → node run i.0 ≡ state → result ≡ goes_first plan parts run mark i.0 }
@@ -89,6 +92,7 @@ fn goes_first(plan: Plan, parts: Parts, mark: Mark, i: Node, slot: Slot, state: 
 }
 
 // Node i is among those who tick next.
+#[tactic(auto, unfolding(shown::specs::Shown::goes_second))]
 fn goes_second(parts: Parts, mark: Mark, i: Node) -> bool
     ensures { result ≡ goes_second parts mark i.0 }
 {
@@ -119,6 +123,7 @@ fn lower(passes: bool, i: Node, found: Node) -> Node
 }
 
 // What was seen of the nodes after i, with node i, which has this sending slot and state.
+#[tactic(auto, unfolding(crate::specs::Looking::seen_from))]
 fn seen_with(
     plan: Plan,
     parts: Parts,

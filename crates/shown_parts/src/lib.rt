@@ -24,6 +24,7 @@ fn predecessor_at(node: NodeDistance, gap: Slot, frame: Slot) -> Slot
 }
 
 // p of rules 1 and 2.
+#[tactic(auto, unfolding(shown::specs::Parts::widest_from))]
 fn widest_from(plan: Plan, distances: Distances, gap: Slot) -> Slot
     requires sound { Sound plan }
     requires distances_value { distances ≡ distances_of plan }
@@ -40,6 +41,7 @@ fn widest_from(plan: Plan, distances: Distances, gap: Slot) -> Slot
 }
 
 // The node that sends in s of rules 1 and 2.
+#[tactic(auto, unfolding(shown::specs::Parts::widest_node))]
 fn widest_node(plan: Plan, distances: Distances, gap: Slot, from: Slot) -> Node
     requires sound { Sound plan }
     requires distances_value { distances ≡ distances_of plan }
@@ -111,6 +113,7 @@ fn parts_with(plan: Plan, p: Slot, fast: Node) -> Parts
 }
 
 // The parts of the run shown for a rule.
+#[tactic(auto, unfolding(shown::specs::Parts::parts_for))]
 pub fn parts_tested(plan: Plan, distances: Distances, gap: Slot, rule: Rule) -> Parts
     requires plan_value { plan_number plan ≡ 0 }
     requires distances_value { distances ≡ distances_of plan }
