@@ -16,6 +16,7 @@ fn write_letter(bytes: &mut [u8], letter: u8, number: u32)
     put32(bytes, 1, number);
 }
 
+#[tactic(auto, unfolding(crate::specs::Forms::step_bytes))]
 fn write_step(bytes: &mut [u8], step: Step)
     requires { length bytes.old ≡ 5 }
     ensures { bytes.new ≡ step_bytes step }
@@ -27,6 +28,7 @@ fn write_step(bytes: &mut [u8], step: Step)
     }
 }
 
+#[tactic(auto, unfolding(crate::specs::Forms::line_bytes))]
 pub fn write_line(bytes: &mut [u8], line: Line)
     requires { length bytes.old ≡ 5 }
     ensures { bytes.new ≡ line_bytes line bytes.old }
@@ -37,6 +39,7 @@ pub fn write_line(bytes: &mut [u8], line: Line)
     }
 }
 
+#[tactic(auto, unfolding(crate::specs::Forms::next_bytes))]
 pub fn write_next(bytes: &mut [u8], next: Next)
     requires { length bytes.old ≡ 5 }
     ensures { bytes.new ≡ next_bytes next bytes.old }
@@ -57,6 +60,7 @@ fn write_pair(bytes: &mut [u8], out: u8, a: u32, b: u32)
     put32(bytes, 5, b);
 }
 
+#[tactic(auto, unfolding(crate::specs::Forms::apart_bytes))]
 pub fn write_apart(bytes: &mut [u8], apart: Apart)
     requires { length bytes.old ≡ 9 }
     ensures { bytes.new ≡ apart_bytes apart bytes.old }
@@ -68,6 +72,7 @@ pub fn write_apart(bytes: &mut [u8], apart: Apart)
     }
 }
 
+#[tactic(auto, using(run_bytes::proofs::Sets::sets_whole), unfolding(crate::specs::Forms::ticks_bytes))]
 pub fn write_ticks(bytes: &mut [u8], reckoned: Reckoned)
     requires { length bytes.old ≡ 4 }
     ensures { bytes.new ≡ ticks_bytes reckoned bytes.old }

@@ -15,6 +15,7 @@ fn mark_byte(mark: Mark) -> u8
     }
 }
 
+#[tactic(auto, unfolding(crate::specs::Places::mark_in))]
 fn mark_in(byte: u8) -> Mark
     ensures { result ≡ mark_in byte }
 {
@@ -27,6 +28,7 @@ fn mark_in(byte: u8) -> Mark
     Mark::After
 }
 
+#[tactic(auto, using(laws::proofs::Bools::or_true_left), unfolding(crate::specs::Places::place_wrong))]
 pub fn place_wrong(bytes: &[u8], nodes: usize) -> bool
     requires { (nodes ≤ 32) × (length bytes.now ≡ 292) }
     ensures { result ≡ place_wrong nodes bytes.now }
@@ -37,6 +39,7 @@ pub fn place_wrong(bytes: &[u8], nodes: usize) -> bool
     2 < bytes[291]
 }
 
+#[tactic(auto, unfolding(crate::specs::Places::place_in))]
 pub fn read_place(bytes: &[u8], nodes: usize) -> Place
     requires { (nodes ≤ 32) × (length bytes.now ≡ 292) }
     ensures { result ≡ place_in nodes bytes.now }
@@ -48,6 +51,7 @@ pub fn read_place(bytes: &[u8], nodes: usize) -> Place
     }
 }
 
+#[tactic(auto, unfolding(crate::specs::Places::place_bytes))]
 pub fn write_place(bytes: &mut [u8], nodes: usize, place: Place)
     requires { (nodes ≤ 32) × (length bytes.old ≡ 292) }
     ensures { bytes.new ≡ place_bytes nodes place bytes.old }

@@ -101,6 +101,7 @@ fn mark_ticked(parts: Parts, i: Node) -> Mark
 }
 
 // The mark after a step.
+#[tactic(auto, unfolding(shown::specs::Shown::mark_after))]
 pub fn mark_after(plan: Plan, parts: Parts, run: Run, mark: Mark, step: Step) -> Mark
     requires { parts.sender.0 < 32 }
     ensures { result ≡ mark_after plan parts run mark step }

@@ -73,6 +73,7 @@ pub fn given_tested(plan: Plan, parts: Parts, place: Place) -> Given
 }
 
 // The next step of the shown run of any plan at any place.
+#[tactic(auto, unfolding(shown::specs::Shown::given_of, shown::specs::Shown::given_for))]
 pub fn next_shown(plan: Plan, place: Place) -> Given
     ensures { result ≡ given_of plan place }
 {

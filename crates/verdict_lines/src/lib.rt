@@ -55,6 +55,7 @@ fn put_verdict(out: &mut [u8], at: usize, nodes: u32, verdict: Verdict) -> usize
     put_outcome(out, fifth, outcome)
 }
 
+#[tactic(auto, unfolding(crate::specs::VerdictLines::judged_text))]
 fn put_judged(out: &mut [u8], at: usize, nodes: Node, judged: Judged) -> usize
     requires { at + 254 ≤ length out.old }
     ensures { Put 254 out.old at (judged_text nodes.0 judged) out.new result }
