@@ -46,7 +46,7 @@ fn ticks_reckoned(plan: Plan, last: Last, node: NodeState) -> u32
     requires sound { Sound plan }
     requires node_value { node_in_range plan node ≡ true }
     requires last_value { last_in_range plan last ≡ true }
-    requires node_value_2 { below_zero plan last node ≡ false }
+    requires not_below_zero { below_zero plan last node ≡ false }
     ensures { result ≡ reckoning plan last node }
 {
     match last {

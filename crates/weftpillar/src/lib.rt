@@ -39,8 +39,7 @@ use step_lines::read_line;
 const ANOTHER_LENGTH: u8 = 255;
 
 // A plan file judged: the verdict, 51 bytes.
-#[unsafe(no_mangle)]
-pub extern "C" fn weftpillar_judge(plan: &[u8], verdict: &mut [u8]) -> u8
+pub fn weftpillar_judge(plan: &[u8], verdict: &mut [u8]) -> u8
     ensures value { result ≡ judge_answer plan.now verdict.old }
     ensures verdict_after { verdict.new ≡ judge_leaves plan.now verdict.old }
 {
@@ -56,8 +55,7 @@ pub extern "C" fn weftpillar_judge(plan: &[u8], verdict: &mut [u8]) -> u8
 }
 
 // A fresh run, 291 bytes.
-#[unsafe(no_mangle)]
-pub extern "C" fn weftpillar_fresh(run: &mut [u8]) -> u8
+pub fn weftpillar_fresh(run: &mut [u8]) -> u8
     ensures value { result ≡ fresh_answer run.old }
     ensures run_after { run.new ≡ fresh_leaves run.old }
 {
@@ -69,8 +67,7 @@ pub extern "C" fn weftpillar_fresh(run: &mut [u8]) -> u8
 }
 
 // One step, by its letter and number: the run moved on in place, or refused and as it was.
-#[unsafe(no_mangle)]
-pub extern "C" fn weftpillar_step(plan: &[u8], run: &mut [u8], letter: u8, number: u32) -> u8
+pub fn weftpillar_step(plan: &[u8], run: &mut [u8], letter: u8, number: u32) -> u8
     ensures value { result ≡ step_answer plan.now run.old letter number }
     ensures run_after { run.new ≡ step_leaves plan.now run.old letter number }
 {
@@ -85,13 +82,7 @@ pub extern "C" fn weftpillar_step(plan: &[u8], run: &mut [u8], letter: u8, numbe
 }
 
 // Many steps, 5 bytes each, and a byte for the answer of each: the plan and the run are tested once, a refused step is passed over.
-#[unsafe(no_mangle)]
-pub extern "C" fn weftpillar_steps(
-    plan: &[u8],
-    run: &mut [u8],
-    steps: &[u8],
-    answers: &mut [u8],
-) -> u8
+pub fn weftpillar_steps(plan: &[u8], run: &mut [u8], steps: &[u8], answers: &mut [u8]) -> u8
     ensures value { result ≡ steps_answer plan.now run.old steps.now answers.old }
     ensures run_after { run.new ≡ steps_leaves_run plan.now run.old steps.now answers.old }
     ensures answers_after { answers.new ≡ steps_leaves_answers plan.now run.old steps.now answers.old }
@@ -110,8 +101,7 @@ pub extern "C" fn weftpillar_steps(
 }
 
 // Whether the run is out of step, and by which nodes: 9 bytes.
-#[unsafe(no_mangle)]
-pub extern "C" fn weftpillar_out_of_step(plan: &[u8], run: &[u8], answer: &mut [u8]) -> u8
+pub fn weftpillar_out_of_step(plan: &[u8], run: &[u8], answer: &mut [u8]) -> u8
     ensures value { result ≡ apart_answer plan.now run.now answer.old }
     ensures answer_after { answer.new ≡ apart_leaves plan.now run.now answer.old }
 {
@@ -126,8 +116,7 @@ pub extern "C" fn weftpillar_out_of_step(plan: &[u8], run: &[u8], answer: &mut [
 }
 
 // A node's reckoning of its ticks: 4 bytes.
-#[unsafe(no_mangle)]
-pub extern "C" fn weftpillar_reckon(plan: &[u8], run: &[u8], node: u32, ticks: &mut [u8]) -> u8
+pub fn weftpillar_reckon(plan: &[u8], run: &[u8], node: u32, ticks: &mut [u8]) -> u8
     ensures value { result ≡ reckon_answer plan.now run.now node ticks.old }
     ensures ticks_after { ticks.new ≡ reckon_leaves plan.now run.now node ticks.old }
 {
@@ -142,8 +131,7 @@ pub extern "C" fn weftpillar_reckon(plan: &[u8], run: &[u8], node: u32, ticks: &
 }
 
 // A step line, its newline included, to a step: 5 bytes.
-#[unsafe(no_mangle)]
-pub extern "C" fn weftpillar_line(line: &[u8], step: &mut [u8]) -> u8
+pub fn weftpillar_line(line: &[u8], step: &mut [u8]) -> u8
     ensures value { result ≡ line_answer line.now step.old }
     ensures step_after { step.new ≡ line_leaves line.now step.old }
 {
@@ -156,8 +144,7 @@ pub extern "C" fn weftpillar_line(line: &[u8], step: &mut [u8]) -> u8
 }
 
 // Where a shown run begins, 292 bytes.
-#[unsafe(no_mangle)]
-pub extern "C" fn weftpillar_fresh_place(place: &mut [u8]) -> u8
+pub fn weftpillar_fresh_place(place: &mut [u8]) -> u8
     ensures value { result ≡ fresh_place_answer place.old }
     ensures place_after { place.new ≡ fresh_place_leaves place.old }
 {
@@ -169,8 +156,7 @@ pub extern "C" fn weftpillar_fresh_place(place: &mut [u8]) -> u8
 }
 
 // The next step of the shown run, 5 bytes, and the place moved on; 254 where the run is finished.
-#[unsafe(no_mangle)]
-pub extern "C" fn weftpillar_next(plan: &[u8], place: &mut [u8], step: &mut [u8]) -> u8
+pub fn weftpillar_next(plan: &[u8], place: &mut [u8], step: &mut [u8]) -> u8
     ensures value { result ≡ next_answer plan.now place.old step.old }
     ensures place_after { place.new ≡ next_leaves_place plan.now place.old step.old }
     ensures step_after { step.new ≡ next_leaves_step plan.now place.old step.old }

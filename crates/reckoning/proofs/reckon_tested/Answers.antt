@@ -17,5 +17,5 @@ ticks_reckoned-ticks-requires-clause-node_value c =
 pub ticks_reckoned-ticks-requires-clause-last_value : goal.ticks_reckoned-ticks-requires-clause-last_value
 ticks_reckoned-ticks-requires-clause-last_value c = range_last c.args.plan c.args.run (legal_reckoning c.args.plan c.args.run c.args.i.0 (cc)).range
 
-pub ticks_reckoned-ticks-requires-clause-node_value_2 : goal.ticks_reckoned-ticks-requires-clause-node_value_2
-ticks_reckoned-ticks-requires-clause-node_value_2 c = (legal_reckoning c.args.plan c.args.run c.args.i.0 (cc)).not_below_0
+pub ticks_reckoned-ticks-requires-clause-not_below_zero : goal.ticks_reckoned-ticks-requires-clause-not_below_zero
+ticks_reckoned-ticks-requires-clause-not_below_zero c = (legal_reckoning c.args.plan c.args.run c.args.i.0 (cc)).not_below_0

@@ -5,7 +5,7 @@ use Rattle.text.proofs.Puts.{put_within, ◌then◌}
 use Rattle.text.proofs.put_numbered.Goals as goal
 
 pub put_digits-requires : goal.put_digits-requires
-put_digits-requires c = omega (arith, decimal_number _ c.ranges.number.fits)
+put_digits-requires c = omega (arith, decimal_number)
 
 pub returns : goal.returns
 returns c = c.put_word-digits.ensures then put_within _ (decimal_number _ c.ranges.number.fits) c.put_digits.ensures
