@@ -14,18 +14,19 @@ for tool in cc rustc; do
     command -v "$tool" >/dev/null 2>&1 || failed "$tool is not on the path"
 done
 
-# what is missing is proved and built, once
+# what is missing is proved and built, once: rt, in the crate's folder, writes it into out/ there
 built() {
     [ -e "$1" ] && return
     command -v rt >/dev/null 2>&1 || failed "rt, the Rattle toolchain, is not on the path"
     echo "linked: proving and building ${1#"$root"/}, once; this takes some minutes" >&2
-    (cd "$root" && rt "$2" "$3") >"$work/log" 2>&1 || { tail -n 20 "$work/log" >&2; failed "rt $2 $3"; }
+    (cd "$root/crates/$3" && rt "$2" </dev/null) >"$work/log" 2>&1 || { tail -n 20 "$work/log" >&2; failed "rt $2 in crates/$3"; }
+    mkdir -p "$(dirname "$1")" && cp "$root/crates/$3/out/$4" "$1" || failed "crates/$3/out/$4 could not be copied"
 }
 
 work=$(mktemp -d) || exit 2
 trap 'rm -rf "$work"' EXIT
-built "$library" staticlib weftpillar
-built "$root/target/bin/judge" check judge
+built "$library" lib weftpillar_c libweftpillar_c.a
+built "$root/target/bin/judge" run judge judge
 
 cc -std=c11 -O2 -Wall -Wextra -Werror -o "$work/judge-c" "$here/judge.c" "$library" || failed "cc on judge.c"
 rustc --edition 2021 -O -D warnings -o "$work/judge-rust" -L "$root/target/staticlib" -l static=weftpillar "$here/judge.rs" ||

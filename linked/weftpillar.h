@@ -1,4 +1,4 @@
-/* Weftpillar, the proved judge of radio slot plans, as a static library: `rt staticlib weftpillar` writes it.
+/* Weftpillar, the proved judge of radio slot plans, as a static library: `rt lib` in crates/weftpillar_c writes it.
 
    Every call is total: it reads and writes the buffers lent to it, keeps nothing from one call to the next, takes no
    memory of its own but the stack, and always answers. What each answers and leaves is defined for every input in
