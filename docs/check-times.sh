@@ -3,13 +3,13 @@
 # many must-fail edits it has, and their product, since an edit costs its crate's check. A table on standard output.
 # Usage: docs/check-times.sh (some ten minutes). What was proved before is removed first.
 cd "$(dirname "$0")/.." || exit 1
-rm -rf target
+rm -rf crates/*/out
 echo '| Crate | Seconds | Peak memory, MB | Edits | Seconds of edits |'
 echo '|---|---|---|---|---|'
 log=$(mktemp)
 all=$(mktemp)
-for crate in $(sed -n 's/^\([a-z_0-9]*\):.*/\1/p' crates.txt); do
-    if ! RT_JOBS=1 /usr/bin/time -f '%e %M' -o "$log" rt check "$crate" >"$log.out" 2>&1; then
+for crate in $(sed -n 's/^\([a-z_0-9]*\)[^:]*:.*/\1/p' crates.txt); do
+    if ! (cd "crates/$crate" && /usr/bin/time -f '%e %M' -o "$log" rt check >"$log.out" 2>&1); then
         echo "$crate is not proved:" >&2
         tail -5 "$log.out" >&2
         exit 1

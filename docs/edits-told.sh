@@ -8,13 +8,14 @@
 cd "$(dirname "$0")/.." || exit 2
 work=$(mktemp -d) || exit 2
 trap 'rm -rf "$work"' EXIT
+# `weftpillar_c` passes on the calls of `weftpillar`, with their clauses.
 crates=$(sed -n 's/^\([a-z_0-9]*\):.*/\1/p' crates.txt)
 
 # Public functions that promise something: those of a library's root, and those that the root passes on with `pub use`.
 for crate in $crates; do
     root=crates/$crate/src/lib.rt
     [ -f "$root" ] || continue
-    passed=" $(sed -n 's/^pub use .*::\([a-z_0-9]*\);$/\1/p' "$root" | tr '\n' ' ')"
+    passed=" $(tr '\n' ' ' <"$root" | grep -o 'pub use [^;]*;' | sed 's/^pub use [a-z_0-9:]*:://; s/[{},;]/ /g' | tr '\n' ' ' | tr -s ' ')"
     awk -v crate="$crate" -v root="$root" -v passed="$passed" '
         function told() { if (name != "" && promises && (file == root || index(passed, " " name " "))) print crate "::" name }
         FNR == 1 { told(); name = ""; file = FILENAME }
