@@ -30,6 +30,7 @@ pub fn run_outside(plan: Plan, run: &[u8]) -> bool
 }
 
 // The number of a step's answer; the run after it is put into bytes where the step is done.
+#[tactic(auto, using(crate::proofs::Answering::refused_leaves, crate::proofs::Answering::done_leaves))]
 fn write_done(run: &mut [u8], nodes: usize, done: Stepped) -> u8
     requires { (nodes ≤ 32) × (length run.old ≡ 291) }
     ensures value { result ≡ answer_number done.answer }

@@ -13,6 +13,7 @@ use shown::Given;
 use shown_next::next_shown;
 
 // The number of a next step's answer; the step and the place after it are put into bytes where there is one.
+#[tactic(auto, using(crate::proofs::Answering::refused_leaves, crate::proofs::Answering::done_leaves))]
 fn write_given(place: &mut [u8], nodes: usize, step: &mut [u8], given: Given) -> u8
     requires { (nodes ≤ 32) × (length place.old ≡ 292) × (length step.old ≡ 5) }
     ensures value { result ≡ next_number given.next }
