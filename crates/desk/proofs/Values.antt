@@ -1,4 +1,4 @@
--- The machine values of a run, a plan, a step and an answer, which both walks speak of.
+-- The machine values of a run, a plan, a step and an answer, as the older proofs by hand spoke of them; nothing cites them today.
 use mathlib.Core.List.{[], ◌∷◌}
 use mir.Val.{Val}
 use denote.RattleType.{RattleType}
