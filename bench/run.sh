@@ -17,7 +17,7 @@ built() {
     folder=crates/$3
     made=$folder/out/$4
     shift 4
-    if [ -e "$file" ] && [ -z "$(find crates -name '*.rt' -newer "$file")" ]; then
+    if [ -e "$file" ] && [ -z "$(find crates -name '*.rt' -not -path '*/out/*' -newer "$file")" ]; then
         return
     fi
     echo "bench: rt $command in $folder (once; this takes some minutes)" >&2

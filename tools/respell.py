@@ -5,7 +5,7 @@ usage: tools/respell.py TOP
 
 tools/respell.tsv has a row for each name: old, a tab, new, and for some a tab and the files that the row is for. Whole words
 turn, in specs/ and proofs/ and in src/. Strings stay, and in a comment only names with a capital turn, since a hyphen there
-may be a sentence's own. A second run changes nothing.
+may be a sentence's own. Run it once, on what port.py wrote: a second run would turn two names that the first one made.
 """
 import os
 import re

@@ -14,7 +14,7 @@ use lib.Seq.{get_or-set_same, get_or-set_other}
 use lib.Dec.{eqb}
 use Rattle.laws.specs.Below.{any_below}
 use Rattle.laws.proofs.Bools.{or_true_right}
-use Rattle.laws.proofs.Ring.{mod-once}
+use Rattle.laws.proofs.Ring.{mod_once}
 use Rattle.plan.specs.declared.Plan.{Plan}
 use Rattle.plan.specs.Sending.{own, sends_below}
 use Rattle.gap.specs.Gap.{slot_before, nearest}
@@ -28,7 +28,7 @@ pub before_0 : (C s : ℕ) → s ≡ 0 → s < C → C - 1 ≡ slot_before C s
 before_0 C s e h = let m : (s + C - 1) % C ≡ s + C - 1 = mod-eq_of_lt (omega arith) in omega arith
 
 pub before_other : (C s : ℕ) → s ≢ 0 → s < C → s - 1 ≡ slot_before C s
-before_other C s e h = omega (arith, mod-once (s + C - 1) C (omega arith) (omega arith))
+before_other C s e h = omega (arith, mod_once (s + C - 1) C (omega arith) (omega arith))
 
 -- the search, by what it meets
 

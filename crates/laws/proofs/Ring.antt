@@ -7,8 +7,8 @@ use native.Mathlib.Decide.{dec_le, dec_lt}
 use native.Mathlib.Omega.{arith}
 use Rattle.laws.specs.Ring.{distance}
 
-pub mod-once : (a C : ℕ) → C ≤ a → a < C + C → a % C ≡ a - C
-mod-once a C h l = mod-eq-sub-mod h ∙ mod-eq_of_lt (omega arith)
+pub mod_once : (a C : ℕ) → C ≤ a → a < C + C → a % C ≡ a - C
+mod_once a C h l = mod-eq-sub-mod h ∙ mod-eq_of_lt (omega arith)
 
 -- d places on from p, round the ring, is s
 pub data Reaches (C p d s : ℕ) : Type 0 where
@@ -20,7 +20,7 @@ unfolding distance
 distance_reaches C p s hp hs = go (dec_le p s)
   where
     go : Dec (p ≤ s) → Reaches C p (distance C p s) s
-    go (yes h) = on (omega (arith, mod-once (s + C - p) C (omega arith) (omega arith)))
+    go (yes h) = on (omega (arith, mod_once (s + C - p) C (omega arith) (omega arith)))
     go (no h) = round (let e : (s + C - p) % C ≡ s + C - p = mod-eq_of_lt (omega arith) in omega arith)
 
 pub distance_below : (C p s : ℕ) → 0 < C → distance C p s < C
@@ -100,7 +100,7 @@ distance_on C p d hp hd = distance_is C p ((p + d) % C) d hp (mod-lt (p + d) (om
   where
     go : Dec (p + d < C) → Reaches C p d ((p + d) % C)
     go (yes l) = on (sym (mod-eq_of_lt l))
-    go (no l) = round (omega (arith, mod-once (p + d) C (omega arith) (omega arith)))
+    go (no l) = round (omega (arith, mod_once (p + d) C (omega arith) (omega arith)))
 
 pub place_on : (C p s : ℕ) → p < C → s < C → (p + distance C p s) % C ≡ s
 place_on C p s hp hs =
@@ -113,7 +113,7 @@ next_place C s h = go (dec_lt (s + 1) C)
   where
     go : Dec (s + 1 < C) → Reaches C s 1 ((s + 1) % C)
     go (yes l) = on (sym (mod-eq_of_lt l))
-    go (no l) = round (omega (arith, mod-once (s + 1) C (omega arith) (omega arith)))
+    go (no l) = round (omega (arith, mod_once (s + 1) C (omega arith) (omega arith)))
 
 pub next_below : (C s : ℕ) → 0 < C → (s + 1) % C < C
 next_below C s h = mod-lt (s + 1) h
@@ -138,7 +138,7 @@ before_place : (C s : ℕ) → s < C → Reaches C ((s + C - 1) % C) 1 s
 before_place C s h = go (dec_le 1 s)
   where
     go : Dec (1 ≤ s) → Reaches C ((s + C - 1) % C) 1 s
-    go (yes l) = on (omega (arith, mod-once (s + C - 1) C (omega arith) (omega arith)))
+    go (yes l) = on (omega (arith, mod_once (s + C - 1) C (omega arith) (omega arith)))
     go (no l) = round (let e : (s + C - 1) % C ≡ s + C - 1 = mod-eq_of_lt (omega arith) in omega arith)
 
 -- one place back is one farther, short of a whole round; the place before s is 1 away

@@ -1,5 +1,5 @@
 -- Every public function's own contract leaves one answer, and one content of what was lent: all of them, by crate, but
--- `judging::tell`, which promises nothing. The byte forms and the calls that C and Rust link are in UniqueBytes.
+-- `judging::tell`, which promises nothing, and `streams`, which says how much is read at most. The byte forms and the calls that C and Rust link are in UniqueBytes.
 use Prim.Native.Nat.{ℕ}
 use mathlib.Core.Path.{◌≡◌, sym, ap, ◌∙◌}
 use Rattle.plan.specs.declared.Plan.{Plan}
@@ -36,6 +36,7 @@ use Rattle.steps.proofs.moved.Reads as moved
 use Rattle.reckoning.proofs.reckon.Reads as reckon
 use Rattle.reckoning.proofs.reckon_tested.Reads as reckon-tested
 use Rattle.desk.proofs.step_at_desk.Reads as step-at-desk
+use Rattle.desk.proofs.step_in_place.Reads as step-in-place
 use Rattle.shown.proofs.fresh_place.Reads as fresh-place
 use Rattle.shown_look.proofs.due_time.Reads as due-time
 use Rattle.shown_look.proofs.guard_ends.Reads as guard-ends
@@ -52,7 +53,7 @@ use Rattle.text.proofs.put_word.Reads as put_word
 use Rattle.text.proofs.put_numbered.Reads as put-numbered
 use Rattle.text.proofs.put_wide.Reads as put-wide
 use Rattle.text.proofs.put_ended.Reads as put_ended
-use Rattle.lines.proofs.put_refused.Reads as Put-refused
+use Rattle.lines.proofs.put_refused.Reads as put-refused
 use Rattle.lines.proofs.write_step.Reads as write_step
 use Rattle.lines.proofs.write_out.Reads as write-out
 use Rattle.lines.proofs.write_answer.Reads as write-answer
@@ -225,7 +226,7 @@ put_ended_one = by_equations _ _ (λ κ a x l p. (p.ends, p.holds))
 
 -- lines, verdict_lines: texts put or written into a lent buffer
 
-pub put_refused_one : One (λ κ l. l.0.now) Put-refused.Post
+pub put_refused_one : One (λ κ l. l.0.now) put-refused.Post
 put_refused_one = by_equations _ _ (λ κ a x l p. (p.ends, p.holds))
 
 pub write_step_one : One (λ κ l. l.0.now) write_step.Post
@@ -254,8 +255,11 @@ reading_end_one κ a x y l m p q = p ∙ sym q
 pub read_line_one : OneAnswer read_line.Post
 read_line_one κ a x y l m p q = p ∙ sym q
 
--- desk, the run that is lent: its contract is proved by hand and has no such form, so the two equations of it are written out
+-- desk, the run that is lent: the two equations of its contract, written out, and the contract's own
 
 pub step_in_place_one : (P : Plan) (r : Run) (s : Step) (x y : Answer) (l m : Run)
     → (x ≡ (step_of P r s).answer) × (l ≡ (step_of P r s).run) → (y ≡ (step_of P r s).answer) × (m ≡ (step_of P r s).run) → (x ≡ y) × (l ≡ m)
 step_in_place_one P r s x y l m p q = (p.0 ∙ sym q.0, p.1 ∙ sym q.1)
+
+pub step_in_place_own : One (λ κ l. l.0.now) step-in-place.Post
+step_in_place_own = by_equations _ _ (λ κ a x l p. p)

@@ -1,3 +1,4 @@
-// Every public function's promise leaves one answer, and one content of what was lent; `judging::tell` alone has none.
+// Every public function's promise leaves one answer, and one content of what was lent; `judging::tell` has none, and `streams`
+// says how much is read at most.
 // What that means in specs/, the list with its proofs in proofs/; there is no code.
 #![tactic(auto)]

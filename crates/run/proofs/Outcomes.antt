@@ -27,33 +27,33 @@ module _ (P : Plan) where
 
   -- the mode
 
-  pub mode-turns : (w c s : ℕ) → s ≡ w → c + 1 ≡ P.guard.0 → mode_after P w c s Waiting ≡ AboutToSend
+  pub mode_turns : (w c s : ℕ) → s ≡ w → c + 1 ≡ P.guard.0 → mode_after P w c s Waiting ≡ AboutToSend
   unfolding mode_after
-  mode-turns w c s e h = rw (eq-eqb s w e, eq-eqb (c + 1) P.guard.0 h)
+  mode_turns w c s e h = rw (eq-eqb s w e, eq-eqb (c + 1) P.guard.0 h)
 
-  pub mode-elsewhere : (w c s : ℕ) → s ≢ w → mode_after P w c s Waiting ≡ Waiting
+  pub mode_elsewhere : (w c s : ℕ) → s ≢ w → mode_after P w c s Waiting ≡ Waiting
   unfolding mode_after
-  mode-elsewhere w c s n = rw (ne_eqb s w n)
+  mode_elsewhere w c s n = rw (ne_eqb s w n)
 
-  pub mode-waits : (w c s : ℕ) → c + 1 ≢ P.guard.0 → mode_after P w c s Waiting ≡ Waiting
+  pub mode_waits : (w c s : ℕ) → c + 1 ≢ P.guard.0 → mode_after P w c s Waiting ≡ Waiting
   unfolding mode_after
-  mode-waits w c s n = go (eqb s w)
+  mode_waits w c s n = go (eqb s w)
     where
       go : (b : Bool) → cond (b && eqb (c + 1) P.guard.0) AboutToSend Waiting ≡ Waiting
       go true = rw (ne_eqb (c + 1) P.guard.0 n)
       go false = refl
 
-  pub mode-about : (w c s : ℕ) → mode_after P w c s AboutToSend ≡ AboutToSend
+  pub mode_about : (w c s : ℕ) → mode_after P w c s AboutToSend ≡ AboutToSend
   unfolding mode_after
-  mode-about w c s = refl
+  mode_about w c s = refl
 
-  pub mode-ends : (w c s : ℕ) → c + P.tail.0 + 1 ≡ P.ticks.0 → mode_after P w c s Sending ≡ Waiting
+  pub mode_ends : (w c s : ℕ) → c + P.tail.0 + 1 ≡ P.ticks.0 → mode_after P w c s Sending ≡ Waiting
   unfolding mode_after
-  mode-ends w c s h = rw (eq-eqb (c + P.tail.0 + 1) P.ticks.0 h)
+  mode_ends w c s h = rw (eq-eqb (c + P.tail.0 + 1) P.ticks.0 h)
 
-  pub mode-sends : (w c s : ℕ) → c + P.tail.0 + 1 ≢ P.ticks.0 → mode_after P w c s Sending ≡ Sending
+  pub mode_sends : (w c s : ℕ) → c + P.tail.0 + 1 ≢ P.ticks.0 → mode_after P w c s Sending ≡ Sending
   unfolding mode_after
-  mode-sends w c s n = rw (ne_eqb (c + P.tail.0 + 1) P.ticks.0 n)
+  mode_sends w c s n = rw (ne_eqb (c + P.tail.0 + 1) P.ticks.0 n)
 
   -- the slot number
 

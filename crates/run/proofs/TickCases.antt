@@ -18,7 +18,7 @@ use Rattle.run.specs.declared.NodeState.{NodeState}
 use Rattle.run.specs.State.{is_about, is_sending}
 use Rattle.run.specs.Moves.{guard_ends, clock_after, slot_after, mode_after, node_ticked}
 use Rattle.run.specs.Reckoning.{ticks_from}
-use Rattle.run.proofs.Outcomes.{clock_heard, clock_on, clock_round, mode-turns, mode-elsewhere, mode-waits, mode-ends, mode-sends, slot_moves, slot_stays, slot_sending}
+use Rattle.run.proofs.Outcomes.{clock_heard, clock_on, clock_round, mode_turns, mode_elsewhere, mode_waits, mode_ends, mode_sends, slot_moves, slot_stays, slot_sending}
 
 -- A node as a tick leaves it, with the clock c and the slot number s.
 abbrev pub ticked_to : (c s : ℕ) → Mode → NodeState
@@ -52,18 +52,18 @@ module _ (P : Plan) (w c s : ℕ) where
     hears : Dec (c + 1 ≡ P.ticks.0) → Dec (s ≡ w) → TickOf Waiting true
     hears (yes e) d = strays Waiting true (λ h. absurd (omega arith))
     hears (no e) (yes d) = strays Waiting true (λ h. d)
-    hears (no e) (no d) = rw (clock_heard P c, slot_stays P c s e, mode-elsewhere P w c s d) (heard d (omega arith))
+    hears (no e) (no d) = rw (clock_heard P c, slot_stays P c s e, mode_elsewhere P w c s d) (heard d (omega arith))
 
     waits : Dec (c + 1 ≡ P.ticks.0) → Dec (c + 1 ≡ P.guard.0) → Dec (s ≡ w) → TickOf Waiting false
-    waits (yes e) t d = rw (clock_round P c e, slot_moves P c s e, mode-waits P w c s (omega (arith, S.guard_tail))) (goes_round e)
-    waits (no e) (yes t) (yes d) = rw (clock_on P c (omega arith), slot_stays P c s e, mode-turns P w c s d t) (turns_about d t)
-    waits (no e) (yes t) (no d) = rw (clock_on P c (omega arith), slot_stays P c s e, mode-elsewhere P w c s d) (waits_on (omega arith) (λ q. absurd (d q)))
-    waits (no e) (no t) d = rw (clock_on P c (omega arith), slot_stays P c s e, mode-waits P w c s t) (waits_on (omega arith) (λ q. t))
+    waits (yes e) t d = rw (clock_round P c e, slot_moves P c s e, mode_waits P w c s (omega (arith, S.guard_tail))) (goes_round e)
+    waits (no e) (yes t) (yes d) = rw (clock_on P c (omega arith), slot_stays P c s e, mode_turns P w c s d t) (turns_about d t)
+    waits (no e) (yes t) (no d) = rw (clock_on P c (omega arith), slot_stays P c s e, mode_elsewhere P w c s d) (waits_on (omega arith) (λ q. absurd (d q)))
+    waits (no e) (no t) d = rw (clock_on P c (omega arith), slot_stays P c s e, mode_waits P w c s t) (waits_on (omega arith) (λ q. t))
 
     sends : Dec (c + 1 ≡ P.ticks.0) → Dec (c + P.tail.0 + 1 ≡ P.ticks.0) → TickOf Sending false
     sends (yes e) t = strays Sending false e
-    sends (no e) (yes t) = rw (clock_on P c (omega arith), slot_sending P c s, mode-ends P w c s t) (ends t)
-    sends (no e) (no t) = rw (clock_on P c (omega arith), slot_sending P c s, mode-sends P w c s t) (sends_on (omega arith) t)
+    sends (no e) (yes t) = rw (clock_on P c (omega arith), slot_sending P c s, mode_ends P w c s t) (ends t)
+    sends (no e) (no t) = rw (clock_on P c (omega arith), slot_sending P c s, mode_sends P w c s t) (sends_on (omega arith) t)
 
     case_of : (m : Mode) (b : Bool) → TickOf m b
     case_of Waiting true = hears (ℕ_discrete (c + 1) P.ticks.0) (ℕ_discrete s w)

@@ -20,7 +20,7 @@ use Rattle.run.specs.declared.Step.{Step}
 use Rattle.run.specs.declared.Step.TheVariants.{Delay, TickOf, SendOf}
 use Rattle.run.specs.State.{node, is_about, is_sending, in_range}
 use Rattle.run.specs.Moves.{delayed, ticked, sent}
-use Rattle.run.proofs.Outcomes.{mode-elsewhere}
+use Rattle.run.proofs.Outcomes.{mode_elsewhere}
 use Rattle.run.proofs.Nodes.{node_when_ticked, node_still}
 use Rattle.shown.specs.declared.Mark.TheVariants.{In, After}
 use Rattle.shown.specs.declared.Place.{Place}
@@ -180,7 +180,7 @@ module _ {P : Plan} {c : Parts} (o : Sound P) (R : Roles P c) (plain : plan_numb
 
     -- the fast node is not in its own slot
     fast_silent : turns P r f ≡ false
-    fast_silent = rw (D.fast.waits, D.fast.slot, mode-elsewhere P (own P f) (node r f).clock.0 c.p.0 (λ e. R.fast_away (sym e)))
+    fast_silent = rw (D.fast.waits, D.fast.slot, mode_elsewhere P (own P f) (node r f).clock.0 c.p.0 (λ e. R.fast_away (sym e)))
 
     fast_ticks : Leads P (within r) (ticks f) After (Ticked P)
     unfolding goes_first goes_second mark_after

@@ -16,7 +16,7 @@ use Rattle.run.specs.declared.NodeState.{NodeState}
 use Rattle.run.specs.declared.Run.{Run}
 use Rattle.run.specs.State.{node, is_about}
 use Rattle.run.specs.Moves.{ticked}
-use Rattle.run.proofs.Outcomes.{clock_heard, mode-elsewhere, slot_stays}
+use Rattle.run.proofs.Outcomes.{clock_heard, mode_elsewhere, slot_stays}
 use Rattle.run.proofs.Nodes.{node_when_ticked, node_still}
 use Rattle.run.proofs.TickCases.{ticked_to}
 use Rattle.shown.specs.declared.Mark.TheVariants.{In}
@@ -116,7 +116,7 @@ module _ {P : Plan} {parts : Parts} {r : Run} (G : Setting P parts r) {n : ℕ �
       at_fast =
           let k : (node r f).clock.0 + 1 ≢ P.ticks.0 = omega (arith, D.fast.clock, S.guard_tail) in
           node_when_ticked P r f (omega (arith, R.fast_below))
-          ∙ rw (D.fast.heard, D.fast.waits, clock_heard P (node r f).clock.0, slot_stays P (node r f).clock.0 (node r f).slot.0 k, D.fast.slot, mode-elsewhere P (own P f) (node r f).clock.0 parts.p.0 off)
+          ∙ rw (D.fast.heard, D.fast.waits, clock_heard P (node r f).clock.0, slot_stays P (node r f).clock.0 (node r f).slot.0 k, D.fast.slot, mode_elsewhere P (own P f) (node r f).clock.0 parts.p.0 off)
 
       one : (i : ℕ) → i < P.nodes.0 → i ≢ f → Slow P parts 0 (ticked_to (P.guard.0 + 1) parts.p.0 Waiting) i 0 (node r i)
       one i l d =

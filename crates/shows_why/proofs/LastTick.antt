@@ -16,7 +16,7 @@ use Rattle.run.specs.declared.NodeState.{NodeState}
 use Rattle.run.specs.declared.Run.{Run}
 use Rattle.run.specs.State.{node, is_about, is_sending, is_out_of_step}
 use Rattle.run.specs.Moves.{node_delayed, delayed, ticked}
-use Rattle.run.proofs.Outcomes.{mode-elsewhere, slot_moves}
+use Rattle.run.proofs.Outcomes.{mode_elsewhere, slot_moves}
 use Rattle.run.proofs.Nodes.{node_when_delayed, node_still}
 use Rattle.run.proofs.Apartness.{tick_apart}
 use Rattle.shown.specs.declared.Mark.TheVariants.{After}
@@ -103,7 +103,7 @@ module _ {P : Plan} {parts : Parts} {b : ℕ} {r : Run} {m : ℕ → ℕ} (G : S
           record {
             speaks = rw (node_still P r i b (λ q. d (sym q))) speaks;
             places = other_ticked G (Leaving P (own P b)) (λ j x. Beside P b x.time.0) m i h.below n
-                (rests (omega (arith, S.min_max)) (rw (w, mode-elsewhere P (own P i) (node r i).clock.0 (node r i).slot.0 s)) (omega arith)) places;
+                (rests (omega (arith, S.min_max)) (rw (w, mode_elsewhere P (own P i) (node r i).clock.0 (node r i).slot.0 s)) (omega arith)) places;
           }
       go (rests e a l) = absurd (fast_goes_first P parts r i R.fast_below n h (omega (arith, places.fast.time, h.due, due_slow P parts i n)))
 

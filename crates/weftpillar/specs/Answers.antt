@@ -14,5 +14,5 @@ abbrev pub other_than : ℕ → List ℕ → Bool
 other_than n bytes = not (eqb (length bytes) n)
 
 -- The answer of a call on a plan file: 255 by the lengths, then the reader's refusal, then the first row that the plan in the file gives; 0 where none is given.
-unfoldable pub answered : (lengths-wrong : Bool) → (file : List ℕ) → (Plan → List Row) → ℕ
+unfoldable pub answered : (lengths_wrong : Bool) → (file : List ℕ) → (Plan → List Row) → ℕ
 answered wrong file rows = first_given (given another_length wrong ∷ refused_by (file_refusal file) ∷ rows (plan_in file))
