@@ -8,7 +8,8 @@
 cd "$(dirname "$0")/.." || exit 2
 work=$(mktemp -d) || exit 2
 trap 'rm -rf "$work"' EXIT
-# `weftpillar_c` passes on the calls of `weftpillar`, with their clauses.
+# A static library's line has `staticlib` before the colon and is passed over: `weftpillar_c` repeats the calls of `weftpillar`
+# with their clauses, and has an edit for each.
 crates=$(sed -n 's/^\([a-z_0-9]*\):.*/\1/p' crates.txt)
 
 # Public functions that promise something: those of a library's root, and those that the root passes on with `pub use`.
