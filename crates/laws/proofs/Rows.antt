@@ -1,84 +1,70 @@
--- Laws of tests in a row: where the first of a row gives no number, no test of it holds; of two parts the first that gives a number decides.
-use Prim.Native.Nat.{ℕ, ◌<◌}
+-- Laws of tests in a row: where the row gives no refusal, no test of it holds; of two parts the first that gives a refusal decides.
 use mathlib.Core.Path.{◌≡◌, refl, sym, ◌∙◌}
-use mathlib.Core.Logic.{◌≢◌}
 use mathlib.Core.Bool.{Bool, true, false, cond}
 use mathlib.Core.List.{List, [], ◌∷◌, ◌++◌}
-use native.Mathlib.Omega.{arith}
-use borrow.Author.Tests.{eq-eqb, ne_eqb, eqb-true, eqb-false}
-use lib.Dec.{T, eqb, ltb, lit<}
+use Rattle.std.specs.Prelude.{Option, None, Some}
+use Rattle.std.proofs.lemmas.Option.{none-some}
 use Rattle.laws.specs.Row.{Row, first_given}
 
--- No test of the rows holds.
-abbrev pub Off : List Row → Type 0
-Off [] = Unit {0}
-Off (row ∷ rows) = (row.holds ≡ false) × Off rows
+module _ {R : Type 0} where
+  -- No test of the rows holds.
+  abbrev pub Off : List (Row R) → Type 0
+  Off [] = Unit {0}
+  Off (row ∷ rows) = (row.holds ≡ false) × Off rows
 
--- No row has the number 0.
-abbrev pub Numbered : List Row → Type 0
-Numbered [] = Unit {0}
-Numbered (row ∷ rows) = T (ltb 0 row.number) × Numbered rows
+  first_off : (r : R) (b : Bool) (m : Option R) → cond b (Some r) m ≡ None → b ≡ false
+  first_off r true m h = absurd (none-some r (sym h))
+  first_off r false m h = refl
 
-first_off : (n : ℕ) (b : Bool) (m : ℕ) → T (ltb 0 n) → cond b n m ≡ 0 → b ≡ false
-first_off n true m t h = let l : 0 < n = lit< t in absurd (omega arith)
-first_off n false m t h = refl
+  first_on : (r : R) (b : Bool) (m : Option R) → b ≡ false → cond b (Some r) m ≡ None → m ≡ None
+  first_on r b m e h = rw e at h
 
-first_on : (n : ℕ) (b : Bool) (m : ℕ) → b ≡ false → cond b n m ≡ 0 → m ≡ 0
-first_on n b m e h = rw e at h
+  pub all_off : (rows : List (Row R)) → first_given rows ≡ None → Off rows
+  unfolding first_given
+  all_off [] h = tt
+  all_off (row ∷ rows) h =
+      let e : row.holds ≡ false = first_off row.refusal row.holds (first_given rows) h in
+      (e, all_off rows (first_on row.refusal row.holds (first_given rows) e h))
 
-pub all_off : (rows : List Row) → Numbered rows → first_given rows ≡ 0 → Off rows
-unfolding first_given
-all_off [] n h = tt
-all_off (row ∷ rows) n h =
-    let e : row.holds ≡ false = first_off row.number row.holds (first_given rows) n.0 h in
-    (e, all_off rows n.1 (first_on row.number row.holds (first_given rows) e h))
+  pub off_all : (rows : List (Row R)) → Off rows → first_given rows ≡ None
+  unfolding first_given
+  off_all [] o = refl
+  off_all (row ∷ rows) o = rw o.0 (off_all rows o.1)
 
-pub off_all : (rows : List Row) → Off rows → first_given rows ≡ 0
-unfolding first_given
-off_all [] o = refl
-off_all (row ∷ rows) o = rw o.0 (off_all rows o.1)
+  -- the first row gives its refusal, or leaves it to the rest
+  pub first_here : (row : Row R) (rows : List (Row R)) → row.holds ≡ true → first_given (row ∷ rows) ≡ Some row.refusal
+  unfolding first_given
+  first_here row rows h = rw h
 
--- the first row gives its number, or leaves it to the rest
-pub first_here : (row : Row) (rows : List Row) → row.holds ≡ true → row.number ≡ first_given (row ∷ rows)
-unfolding first_given
-first_here row rows h = rw h
+  pub first_next : (row : Row R) (rows : List (Row R)) → row.holds ≡ false → first_given (row ∷ rows) ≡ first_given rows
+  unfolding first_given
+  first_next row rows h = rw h
 
-pub first_next : (row : Row) (rows : List Row) → row.holds ≡ false → first_given (row ∷ rows) ≡ first_given rows
-unfolding first_given
-first_next row rows h = rw h
+  -- rows in two parts: the first part gives a refusal, or leaves it to the second
+  pub part_here : (front back : List (Row R)) (r : R) → first_given front ≡ Some r → first_given (front ++ back) ≡ Some r
+  unfolding first_given
+  part_here [] back r e = absurd (none-some r e)
+  part_here (row ∷ rows) back r e = go row.holds (part_here rows back r) e
+    where
+      go : (b : Bool) → (first_given rows ≡ Some r → first_given (rows ++ back) ≡ Some r) → cond b (Some row.refusal) (first_given rows) ≡ Some r → cond b (Some row.refusal) (first_given (rows ++ back)) ≡ Some r
+      go true rest h = h
+      go false rest h = rest h
 
--- the same from the end: a number that the rest gives, with a row before it that does not hold; 0 where no row is left
-pub first_later : (row : Row) (rows : List Row) (n : ℕ) → row.holds ≡ false → n ≡ first_given rows → n ≡ first_given (row ∷ rows)
-first_later row rows n h e = e ∙ sym (first_next row rows h)
+  pub part_later : (front back : List (Row R)) → first_given front ≡ None → first_given (front ++ back) ≡ first_given back
+  unfolding first_given
+  part_later [] back e = refl
+  part_later (row ∷ rows) back e = go row.holds (part_later rows back) e
+    where
+      go : (b : Bool) → (first_given rows ≡ None → first_given (rows ++ back) ≡ first_given back) → cond b (Some row.refusal) (first_given rows) ≡ None → cond b (Some row.refusal) (first_given (rows ++ back)) ≡ first_given back
+      go true rest h = absurd (none-some row.refusal (sym h))
+      go false rest h = rest h
 
-pub first_none : 0 ≡ first_given []
-unfolding first_given
-first_none = refl
-
--- rows in two parts: the number of the first part where it gives one, else that of the second
-pub first_given_parts : (front back : List Row) → Numbered front → first_given (front ++ back) ≡ cond (eqb (first_given front) 0) (first_given back) (first_given front)
-unfolding first_given
-first_given_parts [] back n = refl
-first_given_parts (row ∷ rows) back n = go row.holds (first_given_parts rows back n.1)
-  where
-    go : (b : Bool) → first_given (rows ++ back) ≡ cond (eqb (first_given rows) 0) (first_given back) (first_given rows)
-        → cond b row.number (first_given (rows ++ back)) ≡ cond (eqb (cond b row.number (first_given rows)) 0) (first_given back) (cond b row.number (first_given rows))
-    go true rest = let l : 0 < row.number = lit< n.0 in rw (ne_eqb row.number 0 (omega arith))
-    go false rest = rest
-
--- as code meets them, with n the number of the first part: it is the number, or the second part decides
-pub part_here : (front back : List Row) (n : ℕ) → Numbered front → n ≡ first_given front → n ≢ 0 → n ≡ first_given (front ++ back)
-part_here front back n numbered e h = e ∙ sym (first_given_parts front back numbered ∙ rw (ne_eqb (first_given front) 0 (λ z. h (e ∙ z))))
-
-pub part_later : (front back : List Row) (n : ℕ) → Numbered front → first_given front ≡ 0 → n ≡ first_given back → n ≡ first_given (front ++ back)
-part_later front back n numbered z e = e ∙ sym (first_given_parts front back numbered ∙ rw (eq-eqb (first_given front) 0 z))
-
--- where both parts together give none, neither does
-pub parts_off : (front back : List Row) → Numbered front → first_given (front ++ back) ≡ 0 → (first_given front ≡ 0) × (first_given back ≡ 0)
-parts_off front back n h = go (eqb (first_given front) 0) refl
-  where
-    go : (b : Bool) → eqb (first_given front) 0 ≡ b → (first_given front ≡ 0) × (first_given back ≡ 0)
-    go true e = let z = eqb-true (first_given front) 0 e in (z, sym (first_given_parts front back n ∙ rw e) ∙ h)
-    go false e =
-        let first : first_given (front ++ back) ≡ first_given front = first_given_parts front back n ∙ rw e in
-        absurd (eqb-false (first_given front) 0 e (sym first ∙ h))
+  -- where both parts together give none, neither does
+  pub parts_off : (front back : List (Row R)) → first_given (front ++ back) ≡ None → (first_given front ≡ None) × (first_given back ≡ None)
+  unfolding first_given
+  parts_off [] back e = (refl, e)
+  parts_off (row ∷ rows) back e = go row.holds (parts_off rows back) e
+    where
+      go : (b : Bool) → (first_given (rows ++ back) ≡ None → (first_given rows ≡ None) × (first_given back ≡ None)) → cond b (Some row.refusal) (first_given (rows ++ back)) ≡ None → (cond b (Some row.refusal) (first_given rows) ≡ None) × (first_given back ≡ None)
+      go true rest h = absurd (none-some row.refusal (sym h))
+      go false rest h = rest h

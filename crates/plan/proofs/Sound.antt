@@ -1,19 +1,21 @@
 -- What refusals 1 to 9 let through: each fact of `Sound` is a test that did not hold.
 use Prim.Native.Nat.{ℕ, ◌+◌, ◌≤◌, ◌<◌}
-use mathlib.Core.Path.{◌≡◌, refl, sym}
+use mathlib.Core.Path.{◌≡◌, refl, sym, ◌∙◌}
 use mathlib.Core.Bool.{Bool, true, false, ◌||◌}
 use mathlib.Core.List.{◌++◌}
 use native.Mathlib.Decide.{dec_lt}
 use native.Mathlib.Omega.{arith}
 use borrow.Author.Tests.{ltb-false, leb-false, eqb-false, eqb-true, eq-eqb}
 use lib.Dec.{eqb, leb, ltb}
+use Rattle.std.specs.Prelude.{None, Some}
 use Rattle.laws.proofs.Bools.{clash, or_false_left, or_false_right, false_not_true}
 use Rattle.laws.specs.Row.{first_given}
-use Rattle.laws.proofs.Rows.{Numbered, all_off, parts_off}
+use Rattle.laws.proofs.Rows.{all_off, parts_off, part_here, part_later}
 use Rattle.laws.proofs.Belows.{any_not, any_some, any_found}
 use Rattle.plan.specs.declared.Plan.{Plan}
+use Rattle.plan.specs.declared.refusal.Refusal.{Refusal}
 use Rattle.plan.specs.Sending.{own, sends}
-use Rattle.plan.specs.Tested.{is_active_outside, is_guard_or_tail_wrong, is_min_or_max_wrong, some_not_active, shares_slot, some_shared, frame_rows, ticks_rows, slot_rows, plan_number, Sound}
+use Rattle.plan.specs.Tested.{is_active_outside, is_guard_or_tail_wrong, is_min_or_max_wrong, some_not_active, shares_slot, some_shared, frame_rows, ticks_rows, slot_rows, plan_refusal, Sound}
 
 -- the two halves of `outside`, and of a row of two or three tests, that did not hold
 pub inside_low : (low high x : ℕ) → (ltb x low || ltb high x) ≡ false → low ≤ x
@@ -39,28 +41,31 @@ apart_below : (P : Plan) (j i : ℕ) → shares_slot P i ≡ false → j < i →
 unfolding shares_slot
 apart_below P j i h l e = clash (eqb (own P j) (own P i)) (eq-eqb (own P j) (own P i) e) (any_not i (λ k. eqb (own P k) (own P i)) h j l)
 
--- no row has the number 0, part by part
-pub frame_numbered : (P : Plan) → Numbered (frame_rows P)
-frame_numbered P = (tt, (tt, (tt, tt)))
-
-pub ticks_numbered : (P : Plan) → Numbered (ticks_rows P)
-ticks_numbered P = (tt, (tt, (tt, tt)))
-
-slots_numbered : (P : Plan) → Numbered (slot_rows P)
-slots_numbered P = (tt, (tt, (tt, tt)))
-
 -- 32 nodes at most, as soon as 1 to 3 let a plan through
-pub few_nodes : (P : Plan) → first_given (frame_rows P) ≡ 0 → P.nodes.0 ≤ 32
-few_nodes P e = inside_high 3 32 P.nodes.0 (all_off (frame_rows P) (frame_numbered P) e).0
+pub few_nodes : (P : Plan) → None ≡ first_given (frame_rows P) → P.nodes.0 ≤ 32
+few_nodes P e = inside_high 3 32 P.nodes.0 (all_off (frame_rows P) (sym e)).0
 
-pub sound : (P : Plan) → plan_number P ≡ 0 → Sound P
-unfolding plan_number is_active_outside is_guard_or_tail_wrong is_min_or_max_wrong some_not_active some_shared
+-- the parts of the table in turn: the first that gives a refusal decides
+pub frame_speaks : (P : Plan) (r : Refusal) → Some r ≡ first_given (frame_rows P) → Some r ≡ plan_refusal P
+unfolding plan_refusal
+frame_speaks P r e = sym (part_here (frame_rows P) (ticks_rows P ++ slot_rows P) r (sym e))
+
+pub ticks_speak : (P : Plan) (r : Refusal) → None ≡ first_given (frame_rows P) → Some r ≡ first_given (ticks_rows P) → Some r ≡ plan_refusal P
+unfolding plan_refusal
+ticks_speak P r f e = sym (part_later (frame_rows P) (ticks_rows P ++ slot_rows P) (sym f) ∙ part_here (ticks_rows P) (slot_rows P) r (sym e))
+
+pub slots_decide : (P : Plan) → None ≡ first_given (frame_rows P) → None ≡ first_given (ticks_rows P) → first_given (slot_rows P) ≡ plan_refusal P
+unfolding plan_refusal
+slots_decide P f t = sym (part_later (frame_rows P) (ticks_rows P ++ slot_rows P) (sym f) ∙ part_later (ticks_rows P) (slot_rows P) (sym t))
+
+pub sound : (P : Plan) → plan_refusal P ≡ None → Sound P
+unfolding plan_refusal is_active_outside is_guard_or_tail_wrong is_min_or_max_wrong some_not_active some_shared
 sound P e =
-    let none = parts_off (frame_rows P) (ticks_rows P ++ slot_rows P) (frame_numbered P) e in
-    let later = parts_off (ticks_rows P) (slot_rows P) (ticks_numbered P) none.1 in
-    let frame = all_off (frame_rows P) (frame_numbered P) none.0 in
-    let ticks = all_off (ticks_rows P) (ticks_numbered P) later.0 in
-    let slots = all_off (slot_rows P) (slots_numbered P) later.1 in
+    let none = parts_off (frame_rows P) (ticks_rows P ++ slot_rows P) e in
+    let later = parts_off (ticks_rows P) (slot_rows P) none.1 in
+    let frame = all_off (frame_rows P) none.0 in
+    let ticks = all_off (ticks_rows P) later.0 in
+    let slots = all_off (slot_rows P) later.1 in
     let active = frame.1.1.0 in
     let guards = three_off (eqb P.guard.0 0) (eqb P.tail.0 0) (ltb P.ticks.0 (P.guard.0 + P.tail.0 + 2)) ticks.1.0 in
     let times = three_off (eqb P.min.0 0) (ltb P.max.0 P.min.0) (ltb 2000000 P.max.0) ticks.1.1.0 in

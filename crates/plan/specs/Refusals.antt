@@ -1,86 +1,60 @@
--- The refusal numbers, one table in the order of the tests; 0 is no refusal. Every crate that gives one cites it from here.
-use Rattle.std.specs.Prelude.{ℕ}
+-- The refusals and their numbers, one table in the order of the tests. Every crate that gives one cites it from here.
+use Rattle.std.specs.Prelude.{ℕ, Option, None, Some, Result}
+use Rattle.std.specs.Result.{result_err}
+use Rattle.plan.specs.declared.refusal.Refusal.{Refusal}
+use Rattle.plan.specs.declared.refusal.Refusal.TheVariants.{NotAPlanFile, VersionUnknown, LengthWrong, NodesOutside, FrameOutside, ActiveOutside, TicksOutside, GuardOrTailWrong, MinOrMaxWrong, SlotNotActive, SlotShared, Slot0Silent, LineWrong, RunOutside, OutOfStep, NodeUnknown, TickTooEarly, DelayBeforeSend, DelayWrong, NotAboutToSend, ReckoningBelow0}
 
--- 20: fewer than 5 bytes, or mark not `CSP`.
-abbrev pub not_a_plan_file : ℕ
-not_a_plan_file = 20
+-- Each refusal's number.
+abbrev pub number_of : Refusal → ℕ
+-- fewer than 5 bytes, or mark not `CSP`.
+number_of NotAPlanFile = 20
+-- version not 1.
+number_of VersionUnknown = 21
+-- fewer than 21 bytes, or length not 21 + 2 × N.
+number_of LengthWrong = 22
+-- N outside 3..32.
+number_of NodesOutside = 1
+-- C outside 3..4096.
+number_of FrameOutside = 2
+-- n is 0 or above C.
+number_of ActiveOutside = 3
+-- k0 outside 4..255.
+number_of TicksOutside = 4
+-- g or t is 0, or g + t + 2 > k0.
+number_of GuardOrTailWrong = 5
+-- min is 0, min > max, or max > 2,000,000.
+number_of MinOrMaxWrong = 6
+-- a sending slot is n or more.
+number_of SlotNotActive = 7
+-- two nodes share a slot.
+number_of SlotShared = 8
+-- nobody sends in slot 0.
+number_of Slot0Silent = 9
+-- a step line of another shape, or a number in it above 4,294,967,295.
+number_of LineWrong = 19
+-- a number of the run state lies outside its range.
+number_of RunOutside = 10
+-- the state is out of step and a step is asked.
+number_of OutOfStep = 11
+-- node number N or more.
+number_of NodeUnknown = 12
+-- tick too early.
+number_of TickTooEarly = 13
+-- delay while a node is about to send.
+number_of DelayBeforeSend = 15
+-- delay 0, or a node would pass max.
+number_of DelayWrong = 14
+-- send by a node not about to send.
+number_of NotAboutToSend = 16
+-- reckoning below 0.
+number_of ReckoningBelow0 = 17
 
--- 21: version not 1.
-abbrev pub version_unknown : ℕ
-version_unknown = 21
+-- The number of what speaks against something: 0 where nothing does.
+abbrev pub number_in : Option Refusal → ℕ
+number_in None = 0
+number_in (Some r) = number_of r
 
--- 22: fewer than 21 bytes, or length not 21 + 2 × N.
-abbrev pub length_wrong : ℕ
-length_wrong = 22
-
--- 1: N outside 3..32.
-abbrev pub nodes_outside : ℕ
-nodes_outside = 1
-
--- 2: C outside 3..4096.
-abbrev pub frame_outside : ℕ
-frame_outside = 2
-
--- 3: n is 0 or above C.
-abbrev pub active_outside : ℕ
-active_outside = 3
-
--- 4: k0 outside 4..255.
-abbrev pub ticks_outside : ℕ
-ticks_outside = 4
-
--- 5: g or t is 0, or g + t + 2 > k0.
-abbrev pub guard_or_tail_wrong : ℕ
-guard_or_tail_wrong = 5
-
--- 6: min is 0, min > max, or max > 2,000,000.
-abbrev pub min_or_max_wrong : ℕ
-min_or_max_wrong = 6
-
--- 7: a sending slot is n or more.
-abbrev pub slot_not_active : ℕ
-slot_not_active = 7
-
--- 8: two nodes share a slot.
-abbrev pub slot_shared : ℕ
-slot_shared = 8
-
--- 9: nobody sends in slot 0.
-abbrev pub slot_0_silent : ℕ
-slot_0_silent = 9
-
--- 19: a step line of another shape, or a number in it above 4,294,967,295.
-abbrev pub line_wrong : ℕ
-line_wrong = 19
-
--- 10: a number of the run state lies outside its range.
-abbrev pub run_outside : ℕ
-run_outside = 10
-
--- 11: the state is out of step and a step is asked.
-abbrev pub out_of_step : ℕ
-out_of_step = 11
-
--- 12: node number N or more.
-abbrev pub node_unknown : ℕ
-node_unknown = 12
-
--- 13: tick too early.
-abbrev pub tick_too_early : ℕ
-tick_too_early = 13
-
--- 15: delay while a node is about to send.
-abbrev pub delay_before_send : ℕ
-delay_before_send = 15
-
--- 14: delay 0, or a node would pass max.
-abbrev pub delay_wrong : ℕ
-delay_wrong = 14
-
--- 16: send by a node not about to send.
-abbrev pub not_about_to_send : ℕ
-not_about_to_send = 16
-
--- 17: reckoning below 0.
-abbrev pub reckoning_below_0 : ℕ
-reckoning_below_0 = 17
+-- The number of an answer: 0 where it is no refusal.
+module _ {A : Type 0} where
+  abbrev pub refused_number : Result A Refusal → ℕ
+  refused_number answer = number_in (result_err answer)

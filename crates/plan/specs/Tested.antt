@@ -1,9 +1,10 @@
 -- Refusals 1 to 9: which of them speaks first against a plan, and what a plan is like that none speaks against.
-use Rattle.std.specs.Prelude.{ℕ, ◌+◌, ◌≤◌, ◌<◌, ◌≡◌, Bool, true, not, ◌||◌, List, [], ◌∷◌, ◌++◌, eqb, leb, ltb}
+use Rattle.std.specs.Prelude.{ℕ, ◌+◌, ◌≤◌, ◌<◌, ◌≡◌, Bool, true, not, ◌||◌, List, [], ◌∷◌, ◌++◌, Option, eqb, leb, ltb}
 use Rattle.laws.specs.Row.{Row, given, first_given, outside}
 use Rattle.laws.specs.Below.{any_below}
 use Rattle.plan.specs.declared.Plan.{Plan}
-use Rattle.plan.specs.Refusals.{nodes_outside, frame_outside, active_outside, ticks_outside, guard_or_tail_wrong, min_or_max_wrong, slot_not_active, slot_shared, slot_0_silent}
+use Rattle.plan.specs.declared.refusal.Refusal.{Refusal}
+use Rattle.plan.specs.declared.refusal.Refusal.TheVariants.{NodesOutside, FrameOutside, ActiveOutside, TicksOutside, GuardOrTailWrong, MinOrMaxWrong, SlotNotActive, SlotShared, Slot0Silent}
 use Rattle.plan.specs.Sending.{own, sends_below, sends}
 
 -- n is 0 or above C.
@@ -30,66 +31,66 @@ shares_slot P i = sends_below P i (own P i)
 unfoldable pub some_shared : Plan → Bool
 some_shared P = any_below P.nodes.0 (shares_slot P)
 
--- The rows of the table, each by its number.
+-- The rows of the table, each with its number.
 
 -- 1: N is outside 3 to 32.
-abbrev pub nodes_row : Plan → Row
-nodes_row P = given nodes_outside (outside 3 32 P.nodes.0)
+abbrev pub nodes_row : Plan → Row Refusal
+nodes_row P = given NodesOutside (outside 3 32 P.nodes.0)
 
 -- 2: C is outside 3 to 4,096.
-abbrev pub frame_row : Plan → Row
-frame_row P = given frame_outside (outside 3 4096 P.frame.0)
+abbrev pub frame_row : Plan → Row Refusal
+frame_row P = given FrameOutside (outside 3 4096 P.frame.0)
 
 -- 3
-abbrev pub active_row : Plan → Row
-active_row P = given active_outside (is_active_outside P)
+abbrev pub active_row : Plan → Row Refusal
+active_row P = given ActiveOutside (is_active_outside P)
 
 -- 4: k0 is outside 4 to 255.
-abbrev pub ticks_row : Plan → Row
-ticks_row P = given ticks_outside (outside 4 255 P.ticks.0)
+abbrev pub ticks_row : Plan → Row Refusal
+ticks_row P = given TicksOutside (outside 4 255 P.ticks.0)
 
 -- 5
-abbrev pub guard_or_tail_row : Plan → Row
-guard_or_tail_row P = given guard_or_tail_wrong (is_guard_or_tail_wrong P)
+abbrev pub guard_or_tail_row : Plan → Row Refusal
+guard_or_tail_row P = given GuardOrTailWrong (is_guard_or_tail_wrong P)
 
 -- 6
-abbrev pub min_or_max_row : Plan → Row
-min_or_max_row P = given min_or_max_wrong (is_min_or_max_wrong P)
+abbrev pub min_or_max_row : Plan → Row Refusal
+min_or_max_row P = given MinOrMaxWrong (is_min_or_max_wrong P)
 
 -- 7
-abbrev pub not_active_row : Plan → Row
-not_active_row P = given slot_not_active (some_not_active P)
+abbrev pub not_active_row : Plan → Row Refusal
+not_active_row P = given SlotNotActive (some_not_active P)
 
 -- 8
-abbrev pub shared_row : Plan → Row
-shared_row P = given slot_shared (some_shared P)
+abbrev pub shared_row : Plan → Row Refusal
+shared_row P = given SlotShared (some_shared P)
 
 -- 9: nobody sends in slot 0.
-abbrev pub slot0_row : Plan → Row
-slot0_row P = given slot_0_silent (not (sends P 0))
+abbrev pub slot0_row : Plan → Row Refusal
+slot0_row P = given Slot0Silent (not (sends P 0))
 
 -- The nodes and the frame: 1 to 3.
-abbrev pub frame_rows : Plan → List Row
+abbrev pub frame_rows : Plan → List (Row Refusal)
 frame_rows P = nodes_row P ∷ frame_row P ∷ active_row P ∷ []
 
 -- The ticks and the time between them: 4 to 6.
-abbrev pub ticks_rows : Plan → List Row
+abbrev pub ticks_rows : Plan → List (Row Refusal)
 ticks_rows P = ticks_row P ∷ guard_or_tail_row P ∷ min_or_max_row P ∷ []
 
 -- The sending slots: 7 to 9.
-abbrev pub slot_rows : Plan → List Row
+abbrev pub slot_rows : Plan → List (Row Refusal)
 slot_rows P = not_active_row P ∷ shared_row P ∷ slot0_row P ∷ []
 
 -- The plan's rows, in the order of the tests: first those of its numbers, then those of its slots.
-abbrev pub number_rows : Plan → List Row
+abbrev pub number_rows : Plan → List (Row Refusal)
 number_rows P = frame_rows P ++ ticks_rows P
 
-abbrev pub plan_rows : Plan → List Row
+abbrev pub plan_rows : Plan → List (Row Refusal)
 plan_rows P = number_rows P ++ slot_rows P
 
--- The first of refusals 1 to 9 that speaks against a plan; 0 where they let it through.
-unfoldable pub plan_number : Plan → ℕ
-plan_number P = first_given (plan_rows P)
+-- The first of refusals 1 to 9 that speaks against a plan; none where they let it through.
+unfoldable pub plan_refusal : Plan → Option Refusal
+plan_refusal P = first_given (plan_rows P)
 
 -- What a plan is like that refusals 1 to 9 let through.
 pub record Sound (P : Plan) : Type 0 where
