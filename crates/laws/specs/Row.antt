@@ -1,5 +1,5 @@
 -- Tests in a row: each has a refusal, and the first that holds gives its own.
-use Rattle.std.specs.Prelude.{ℕ, Bool, cond, ◌||◌, List, [], ◌∷◌, Option, None, Some, Result, Ok, Err, ltb}
+use Rattle.std.specs.Prelude.{ℕ, Bool, cond, ◌||◌, List, [], ◌∷◌, Option, None, Some, Result, Err, ltb}
 
 -- One row of a table of refusals: the refusal, and whether it is to be given.
 pub record Row (R : Type 0) : Type 0 where

@@ -37,7 +37,6 @@ fn min_or_max_wrong(plan: Plan) -> bool
 }
 
 // A sending slot is n or more.
-#[tactic(auto, using(laws::proofs::Chains::any_chain), unfolding(crate::specs::Tested::some_not_active))]
 fn some_not_active(plan: Plan) -> bool
     requires { plan.nodes.0 ≤ 32 }
     ensures { result ≡ some_not_active plan }
@@ -48,7 +47,6 @@ fn some_not_active(plan: Plan) -> bool
 }
 
 // Some node below count sends in the slot.
-#[tactic(auto, using(laws::proofs::Chains::any_chain))]
 fn sends_below(plan: Plan, count: usize, slot: Slot) -> bool
     requires { count ≤ 32 }
     ensures { result ≡ sends_below plan count slot.0 }
