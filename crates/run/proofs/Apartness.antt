@@ -7,39 +7,32 @@ use native.Mathlib.Omega.{arith}
 use borrow.Author.Tests.{eqb-true, eq-eqb, ne_eqb}
 use lib.Dec.{eqb}
 use lib.ListN.{length}
+use Rattle.std.specs.Prelude.{None, Some, is_some}
 use Rattle.laws.specs.Below.{any_below, first_below}
 use Rattle.laws.proofs.Bools.{and_both, false_not_true}
 use Rattle.laws.proofs.Belows.{any_found, any_never, Found, found, none, first_found, first_at}
 use Rattle.plan.specs.declared.Plan.{Plan}
-use Rattle.plan.specs.declared.Node.{Node}
 use Rattle.plan.specs.Sending.{own}
 use Rattle.run.specs.declared.Run.{Run}
 use Rattle.run.specs.declared.Apart.{Apart}
-use Rattle.run.specs.declared.Apart.TheVariants.{InStep, Out, Refused}
 use Rattle.run.specs.State.{node, is_sending, elsewhere, sends_apart, is_out_of_step, sender_apart, apart_tested}
 use Rattle.run.specs.Moves.{node_ticked, ticked, sent}
 use Rattle.run.proofs.Nodes.{node_when_ticked, node_still, node_sender, node_when_hearing}
-
--- what is told by the answer alone
-abbrev pub is_out : Apart → Bool
-is_out InStep = false
-is_out (Out i j) = true
-is_out (Refused n) = false
 
 module _ (P : Plan) (r : Run) where
   -- node i is sending
   abbrev pub sending : ℕ → Bool
   sending i = is_sending (node r i).mode
 
-  pub out_of_step_told : is_out_of_step P r ≡ is_out (apart_tested P r)
+  pub out_of_step_told : is_out_of_step P r ≡ is_some (apart_tested P r)
   unfolding apart_tested
-  out_of_step_told = told (is_out_of_step P r) (record { 0 = sender_apart P r }) (record { 0 = first_below P.nodes.0 (elsewhere r (sender_apart P r)) })
+  out_of_step_told = told (is_out_of_step P r) (record { sending = record { 0 = sender_apart P r }; elsewhere = record { 0 = first_below P.nodes.0 (elsewhere r (sender_apart P r)) } })
     where
-      told : (b : Bool) (i j : Node) → b ≡ is_out (cond b (Out i j) InStep)
-      told true i j = refl
-      told false i j = refl
+      told : (b : Bool) (a : Apart) → b ≡ is_some (cond b (Some a) None)
+      told true a = refl
+      told false a = refl
 
-  in_step : is_out_of_step P r ≡ false → apart_tested P r ≡ InStep
+  in_step : is_out_of_step P r ≡ false → apart_tested P r ≡ None
   unfolding apart_tested
   in_step h = rw h
 
@@ -48,7 +41,7 @@ module _ (P : Plan) (r : Run) where
   not_apart_silent i h = rw h
 
   -- nobody is sending
-  pub in_step_silent : P.nodes.0 ≤ first_below P.nodes.0 sending → apart_tested P r ≡ InStep
+  pub in_step_silent : P.nodes.0 ≤ first_below P.nodes.0 sending → apart_tested P r ≡ None
   unfolding is_out_of_step
   in_step_silent h = in_step (any_never P.nodes.0 (sends_apart P r) (λ i l. not_apart_silent i (quiet (first_below P.nodes.0 sending) (first_found P.nodes.0 sending) h i l)))
     where
@@ -57,7 +50,7 @@ module _ (P : Plan) (r : Run) where
       quiet k (none a b) l = b
 
   -- every node is in the slot of node i
-  pub in_step_together : (i : ℕ) → P.nodes.0 ≤ first_below P.nodes.0 (elsewhere r i) → apart_tested P r ≡ InStep
+  pub in_step_together : (i : ℕ) → P.nodes.0 ≤ first_below P.nodes.0 (elsewhere r i) → apart_tested P r ≡ None
   unfolding is_out_of_step sends_apart
   in_step_together i h = in_step (any_never P.nodes.0 (sends_apart P r) alone)
     where
@@ -77,12 +70,12 @@ module _ (P : Plan) (r : Run) where
   -- i is the lowest sending node, j the lowest node elsewhere
   pub out_lowest :
       (i j : ℕ) → i ≡ first_below P.nodes.0 sending → i < P.nodes.0 → j ≡ first_below P.nodes.0 (elsewhere r i) → j < P.nodes.0
-      → apart_tested P r ≡ Out (record { 0 = i }) (record { 0 = j })
+      → apart_tested P r ≡ Some (record { sending = record { 0 = i }; elsewhere = record { 0 = j } })
   unfolding is_out_of_step sends_apart apart_tested
   out_lowest i j p l q m =
       first (rw (← p) at (first_found P.nodes.0 sending)) (rw (← q) at (first_found P.nodes.0 (elsewhere r i)))
     where
-      first : Found P.nodes.0 sending i → Found P.nodes.0 (elsewhere r i) j → apart_tested P r ≡ Out (record { 0 = i }) (record { 0 = j })
+      first : Found P.nodes.0 sending i → Found P.nodes.0 (elsewhere r i) j → apart_tested P r ≡ Some (record { sending = record { 0 = i }; elsewhere = record { 0 = j } })
       first (found a b c) (found d e f) =
           let yes : sends_apart P r i ≡ true = and_both (sending i) (any_below P.nodes.0 (elsewhere r i)) b (any_found P.nodes.0 j (elsewhere r i) d e) in
           let sender : sender_apart P r ≡ i = first_at P.nodes.0 i (sends_apart P r) a (λ k n. not_apart_silent k (c k n)) yes in

@@ -3,25 +3,25 @@ use Prim.Native.Nat.{ℕ, ◌+◌, ◌≤◌, ◌<◌}
 use mathlib.Core.Path.{◌≡◌, refl, ap}
 use mathlib.Core.Bool.{Bool, true, false, not}
 use mathlib.Core.List.{◌∷◌}
+use Rattle.std.specs.Prelude.{Option, None, Some, Ok}
 use native.Mathlib.Omega.{arith}
-use borrow.Author.Tests.{ltb-false, leb-false, eqb-false, eqb-true, eq-eqb, ne_eqb, le-ltb, lt-leb}
+use borrow.Author.Tests.{ltb-false, leb-false, eqb-false, ne_eqb, le-ltb, lt-leb}
 use lib.Dec.{eqb, ltb}
-use Rattle.laws.specs.Row.{given}
+use Rattle.laws.specs.Row.{given, unless}
 use Rattle.laws.specs.Below.{any_below}
 use Rattle.laws.proofs.Bools.{or_false_left, or_false_right, or_neither, false_not_true}
 use Rattle.laws.proofs.Rows.{all_off, off_all}
 use Rattle.laws.proofs.Belows.{any_not, any_never}
 use Rattle.plan.specs.declared.Plan.{Plan}
-use Rattle.plan.specs.Refusals.{run_outside, out_of_step}
-use Rattle.plan.specs.Tested.{plan_number}
+use Rattle.plan.specs.declared.refusal.Refusal.{Refusal}
+use Rattle.plan.specs.declared.refusal.Refusal.TheVariants.{RunOutside, OutOfStep}
+use Rattle.plan.specs.Tested.{plan_refusal}
 use Rattle.run.specs.declared.Run.{Run}
 use Rattle.run.specs.declared.Step.{Step}
 use Rattle.run.specs.declared.Step.TheVariants.{Delay, TickOf, SendOf}
-use Rattle.run.specs.declared.Answer.{Answer}
-use Rattle.run.specs.declared.Answer.TheVariants.{Done}
 use Rattle.run.specs.State.{node, is_about, in_range, is_out_of_step}
 use Rattle.run.specs.Moves.{moved}
-use Rattle.run.specs.Steps.{step_rows, step_number, step_tested, step_of}
+use Rattle.run.specs.Steps.{step_rows, step_refusal, step_tested, step_of}
 
 -- a delay is legal: it is one, nobody is about to send, nobody passes max
 pub record DelayLegal (P : Plan) (r : Run) (d : ℕ) : Type 0 where
@@ -53,10 +53,10 @@ module _ (P : Plan) (r : Run) where
   passes_max : ℕ → ℕ → Bool
   passes_max d i = ltb P.max.0 ((node r i).time.0 + d)
 
-  pub legal_step : (s : Step) → step_number P r s ≡ 0 → StepLegal P r s
-  unfolding step_number passes_max
+  pub legal_step : (s : Step) → step_refusal P r s ≡ None → StepLegal P r s
+  unfolding step_refusal passes_max
   legal_step (Delay d) h =
-      let o = all_off (given run_outside (not (in_range P r)) ∷ given out_of_step (is_out_of_step P r) ∷ step_rows P r (Delay d)) (tt, (tt, (tt, (tt, tt)))) h in
+      let o = all_off (given RunOutside (not (in_range P r)) ∷ given OutOfStep (is_out_of_step P r) ∷ step_rows P r (Delay d)) h in
       let late = o.1.1.1.0 in
       record {
         range = false_not_true (in_range P r) o.0;
@@ -69,7 +69,7 @@ module _ (P : Plan) (r : Run) where
             };
       }
   legal_step (TickOf i) h =
-      let o = all_off (given run_outside (not (in_range P r)) ∷ given out_of_step (is_out_of_step P r) ∷ step_rows P r (TickOf i)) (tt, (tt, (tt, (tt, tt)))) h in
+      let o = all_off (given RunOutside (not (in_range P r)) ∷ given OutOfStep (is_out_of_step P r) ∷ step_rows P r (TickOf i)) h in
       record {
         range = false_not_true (in_range P r) o.0;
         together = o.1.0;
@@ -80,7 +80,7 @@ module _ (P : Plan) (r : Run) where
             };
       }
   legal_step (SendOf i) h =
-      let o = all_off (given run_outside (not (in_range P r)) ∷ given out_of_step (is_out_of_step P r) ∷ step_rows P r (SendOf i)) (tt, (tt, (tt, (tt, tt)))) h in
+      let o = all_off (given RunOutside (not (in_range P r)) ∷ given OutOfStep (is_out_of_step P r) ∷ step_rows P r (SendOf i)) h in
       record {
         range = false_not_true (in_range P r) o.0;
         together = o.1.0;
@@ -91,11 +91,11 @@ module _ (P : Plan) (r : Run) where
             };
       }
 
-  pub step_legal : (s : Step) → StepLegal P r s → step_number P r s ≡ 0
-  unfolding step_number passes_max
+  pub step_legal : (s : Step) → StepLegal P r s → step_refusal P r s ≡ None
+  unfolding step_refusal passes_max
   step_legal (Delay d) l =
       let k = l.kind in
-      off_all (given run_outside (not (in_range P r)) ∷ given out_of_step (is_out_of_step P r) ∷ step_rows P r (Delay d)) (
+      off_all (given RunOutside (not (in_range P r)) ∷ given OutOfStep (is_out_of_step P r) ∷ step_rows P r (Delay d)) (
         ap not l.range,
         (
           l.together,
@@ -110,32 +110,27 @@ module _ (P : Plan) (r : Run) where
       )
   step_legal (TickOf i) l =
       let k = l.kind in
-      off_all (given run_outside (not (in_range P r)) ∷ given out_of_step (is_out_of_step P r) ∷ step_rows P r (TickOf i))
+      off_all (given RunOutside (not (in_range P r)) ∷ given OutOfStep (is_out_of_step P r) ∷ step_rows P r (TickOf i))
       (ap not l.range, (l.together, (lt-leb P.nodes.0 i.0 k.below, (le-ltb (node r i.0).time.0 P.min.0 k.ripe, tt))))
   step_legal (SendOf i) l =
       let k = l.kind in
-      off_all (given run_outside (not (in_range P r)) ∷ given out_of_step (is_out_of_step P r) ∷ step_rows P r (SendOf i))
+      off_all (given RunOutside (not (in_range P r)) ∷ given OutOfStep (is_out_of_step P r) ∷ step_rows P r (SendOf i))
       (ap not l.range, (l.together, (lt-leb P.nodes.0 i.0 k.below, (ap not k.about, tt))))
 
   -- a step that is done was legal, and leads where it should
-  pub record StepDone (s : Step) : Type 0 where
-    pub number : step_number P r s ≡ 0
-    pub leads : (step_of P r s).run ≡ moved P r s
+  pub record StepDone (s : Step) (next : Run) : Type 0 where
+    pub refusal : step_refusal P r s ≡ None
+    pub leads : next ≡ moved P r s
 
-  pub done_step : (s : Step) → plan_number P ≡ 0 → (step_of P r s).answer ≡ Done → StepDone s
+  pub done_step : (s : Step) (next : Run) → plan_refusal P ≡ None → step_of P r s ≡ Ok next → StepDone s next
   unfolding step_of step_tested
-  done_step s e h = go (eqb (step_number P r s) 0) refl
+  done_step s next e h = go (step_refusal P r s) refl (rw e at h)
     where
-      sure : step_of P r s ≡ step_tested P r s
-      sure = rw (eq-eqb (plan_number P) 0 e)
-
-      go : (b : Bool) → eqb (step_number P r s) 0 ≡ b → StepDone s
-      go true q = record { number = eqb-true (step_number P r s) 0 q; leads = rw (eq-eqb (plan_number P) 0 e, q) }
-      go false q =
-          let z : Answer.Refused (step_number P r s) ≡ Done = rw (eq-eqb (plan_number P) 0 e, q) at h in
-          absurd (let y : ◌≡◌ {A = ℕ} 0 1 = cc in omega arith)
+      go : (o : Option Refusal) → step_refusal P r s ≡ o → unless o (Ok (moved P r s)) ≡ Ok next → StepDone s next
+      go None q z = record { refusal = q; leads = cc }
+      go (Some x) q z = cc
 
   -- a legal step is done
-  pub step_done : (s : Step) → plan_number P ≡ 0 → step_number P r s ≡ 0 → step_of P r s ≡ record { answer = Done; run = moved P r s }
+  pub step_done : (s : Step) → plan_refusal P ≡ None → step_refusal P r s ≡ None → step_of P r s ≡ Ok (moved P r s)
   unfolding step_of step_tested
-  step_done s e h = rw (eq-eqb (plan_number P) 0 e, eq-eqb (step_number P r s) 0 h)
+  step_done s e h = rw (e, h)

@@ -1,11 +1,10 @@
 -- What a delay, a tick and a send make of a node and of the run.
-use Rattle.std.specs.Prelude.{ℕ, ◌+◌, ◌%◌, Bool, false, cond, ◌&&◌, ◌||◌, set, eqb, ltb}
+use Rattle.std.specs.Prelude.{ℕ, ◌+◌, ◌%◌, Bool, false, cond, ◌&&◌, ◌||◌, Some, set, eqb, ltb}
 use Rattle.laws.specs.Over.{over}
 use Rattle.plan.specs.declared.Plan.{Plan}
 use Rattle.plan.specs.Sending.{own}
 use Rattle.run.specs.declared.Mode.{Mode}
 use Rattle.run.specs.declared.Mode.TheVariants.{Waiting, AboutToSend, Sending}
-use Rattle.run.specs.declared.Last.TheVariants.{At}
 use Rattle.run.specs.declared.NodeState.{NodeState}
 use Rattle.run.specs.declared.Run.{Run}
 use Rattle.run.specs.declared.Step.{Step}
@@ -76,7 +75,7 @@ abbrev pub ticked : Plan → (i : ℕ) → Run → Run
 ticked P i r = record { nodes = set r.nodes i (node_ticked P (own P i) (node r i)); last = r.last }
 
 abbrev pub sent : Plan → (i : ℕ) → Run → Run
-sent P i r = record { nodes = over P.nodes.0 (node_at_send P i) r.nodes; last = At (node r i).slot }
+sent P i r = record { nodes = over P.nodes.0 (node_at_send P i) r.nodes; last = Some (node r i).slot }
 
 -- The run after a step.
 abbrev pub moved : Plan → Run → Step → Run

@@ -1,15 +1,15 @@
 -- The state of a run: fresh, in range (refusal 10), out of step (refusal 11).
-use Rattle.std.specs.Prelude.{ℕ, Bool, true, false, cond, not, ◌&&◌, get_or, replicate, eqb, leb, ltb}
+use Rattle.std.specs.Prelude.{ℕ, Bool, true, false, cond, not, ◌&&◌, Option, None, Some, get_or, replicate, eqb, leb, ltb}
 use Rattle.laws.specs.Below.{any_below, all_below, first_below}
 use Rattle.plan.specs.declared.Plan.{Plan}
+use Rattle.plan.specs.declared.Slot.{Slot}
+use Rattle.plan.specs.declared.refusal.Refusal.{Refusal}
+use Rattle.plan.specs.declared.refusal.Refusal.TheVariants.{RunOutside}
 use Rattle.run.specs.declared.Mode.{Mode}
 use Rattle.run.specs.declared.Mode.TheVariants.{Waiting, AboutToSend, Sending}
-use Rattle.run.specs.declared.Last.{Last}
-use Rattle.run.specs.declared.Last.TheVariants.{At, Nothing}
 use Rattle.run.specs.declared.NodeState.{NodeState}
 use Rattle.run.specs.declared.Run.{Run}
 use Rattle.run.specs.declared.Apart.{Apart}
-use Rattle.run.specs.declared.Apart.TheVariants.{InStep, Out}
 
 -- A fresh node: all numbers 0, waiting, nothing pending.
 abbrev pub fresh_node : NodeState
@@ -17,7 +17,7 @@ fresh_node = record { clock = record { 0 = 0 }; slot = record { 0 = 0 }; time = 
 
 -- A fresh run: every node fresh, none sent.
 unfoldable pub fresh_run : Run
-fresh_run = record { nodes = replicate 32 fresh_node; last = Nothing }
+fresh_run = record { nodes = replicate 32 fresh_node; last = None }
 
 -- Node i of a run.
 abbrev pub node : Run → ℕ → NodeState
@@ -43,13 +43,17 @@ abbrev pub node_in_range : Plan → NodeState → Bool
 node_in_range P a = ltb a.clock.0 P.ticks.0 && ltb a.slot.0 P.frame.0 && leb a.time.0 P.max.0
 
 -- The last message's slot is 0 to C − 1.
-abbrev pub last_in_range : Plan → Last → Bool
-last_in_range P (At s) = ltb s.0 P.frame.0
-last_in_range P Nothing = true
+abbrev pub last_in_range : Plan → Option Slot → Bool
+last_in_range P (Some s) = ltb s.0 P.frame.0
+last_in_range P None = true
 
 -- Every number of the run lies in its range; places from N on are not looked at.
 unfoldable pub in_range : Plan → Run → Bool
 in_range P r = all_below P.nodes.0 (λ i. node_in_range P (node r i)) && last_in_range P r.last
+
+-- What test 10 says of a run.
+abbrev pub range_refusal : Plan → Run → Option Refusal
+range_refusal P r = cond (in_range P r) None (Some RunOutside)
 
 -- Node j has another slot number than node i.
 abbrev pub elsewhere : Run → (i j : ℕ) → Bool
@@ -67,9 +71,9 @@ is_out_of_step P r = any_below P.nodes.0 (sends_apart P r)
 abbrev pub sender_apart : Plan → Run → ℕ
 sender_apart P r = first_below P.nodes.0 (sends_apart P r)
 
--- In step; or out of step, with the lowest sending node that has a node elsewhere and the lowest such node.
-unfoldable pub apart_tested : Plan → Run → Apart
+-- Out of step: the lowest sending node that has a node elsewhere, and the lowest such node. None where the run is in step.
+unfoldable pub apart_tested : Plan → Run → Option Apart
 apart_tested P r =
     cond (is_out_of_step P r)
-    (Out (record { 0 = sender_apart P r }) (record { 0 = first_below P.nodes.0 (elsewhere r (sender_apart P r)) }))
-    InStep
+    (Some (record { sending = record { 0 = sender_apart P r }; elsewhere = record { 0 = first_below P.nodes.0 (elsewhere r (sender_apart P r)) } }))
+    None

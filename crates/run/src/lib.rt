@@ -3,29 +3,23 @@
 
 mod modes;
 mod range;
+mod tested;
 
 ghost use Rattle.std.specs.Prelude.{◌≡◌};
 ghost use Rattle.run.specs.State.{fresh_run};
 
-pub use modes::{is_about, is_sending};
 use plan::{Node, Slot, Tick, Time};
 pub use range::in_range;
+pub use tested::TestedRun;
 
-#[derive(Clone, Copy)]
+#[derive(Clone, Copy, Debug, PartialEq, Eq)]
 pub enum Mode {
     Waiting,
     AboutToSend,
     Sending,
 }
 
-// The slot of the last message, or the mark that none was sent.
-#[derive(Clone, Copy)]
-pub enum Last {
-    At(Slot),
-    Nothing,
-}
-
-#[derive(Clone, Copy)]
+#[derive(Clone, Copy, Debug)]
 pub struct NodeState {
     pub clock: Tick,
     pub slot: Slot,
@@ -37,46 +31,30 @@ pub struct NodeState {
 }
 
 // A run as it is handed in, tested or not. Places of `nodes` from N on are never tested and never change.
-#[derive(Clone, Copy)]
+#[derive(Clone, Copy, Debug)]
 pub struct Run {
     pub nodes: [NodeState; 32],
-    pub last: Last,
+    // the slot of the last message, if one was sent
+    pub last: Option<Slot>,
 }
 
-#[derive(Clone, Copy)]
+#[derive(Clone, Copy, Debug, PartialEq, Eq)]
 pub enum Step {
     Delay(Time),
     TickOf(Node),
     SendOf(Node),
 }
 
-#[derive(Clone, Copy)]
-pub enum Answer {
-    Done,
-    Refused(u8),
+// A run is out of step: the lowest sending node with a node elsewhere, and the lowest such node.
+#[derive(Clone, Copy, Debug, PartialEq, Eq)]
+pub struct Apart {
+    pub sending: Node,
+    pub elsewhere: Node,
 }
 
-// The answer to a step, and the run after it: the run as it was, where the step was refused.
-#[derive(Clone, Copy)]
-pub struct Stepped {
-    pub answer: Answer,
-    pub run: Run,
-}
-
-// Whether a run is out of step: the lowest sending node with a node elsewhere, and the lowest such node.
-#[derive(Clone, Copy)]
-pub enum Apart {
-    InStep,
-    Out(Node, Node),
-    Refused(u8),
-}
-
-// A node's reckoning, in ticks.
-#[derive(Clone, Copy)]
-pub enum Reckoned {
-    Ticks(u32),
-    Refused(u8),
-}
+// A count of ticks: a node's reckoning.
+#[derive(Clone, Copy, Debug, PartialEq, Eq)]
+pub struct Ticks(pub u32);
 
 // A run at its beginning: all numbers 0, all waiting, nothing pending, none sent.
 #[tactic(auto, unfolding(crate::specs::State::fresh_run))]
@@ -90,9 +68,8 @@ pub fn fresh() -> Run
         mode: Mode::Waiting,
         pending: false,
     };
-    let nodes = [node; 32];
     Run {
-        nodes: nodes,
-        last: Last::Nothing,
+        nodes: [node; 32],
+        last: None,
     }
 }

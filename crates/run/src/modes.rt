@@ -4,22 +4,16 @@ ghost use Rattle.run.specs.State.{is_about, is_sending};
 
 use crate::Mode;
 
-pub fn is_about(mode: Mode) -> bool
-    ensures { result ≡ is_about mode }
-{
-    match mode {
-        Mode::Waiting => false,
-        Mode::AboutToSend => true,
-        Mode::Sending => false,
+impl Mode {
+    pub fn is_about_to_send(self) -> bool
+        ensures { result ≡ is_about self }
+    {
+        self == Mode::AboutToSend
     }
-}
 
-pub fn is_sending(mode: Mode) -> bool
-    ensures { result ≡ is_sending mode }
-{
-    match mode {
-        Mode::Waiting => false,
-        Mode::AboutToSend => false,
-        Mode::Sending => true,
+    pub fn is_sending(self) -> bool
+        ensures { result ≡ is_sending self }
+    {
+        self == Mode::Sending
     }
 }

@@ -21,7 +21,7 @@ use Rattle.gap.proofs.Back.{before_own}
 use Rattle.gap.proofs.Bounds.{gap_low}
 use Rattle.rules.specs.declared.Rule.{Rule}
 use Rattle.rules.specs.declared.Rule.TheVariants.{One, Two, Three}
-use Rattle.rules.specs.declared.Outcome.TheVariants.{Fails}
+use Rattle.std.specs.Prelude.{Some}
 use Rattle.rules.specs.Rules.{sides_at, verdict_at, verdict_of}
 use Rattle.rules.proofs.Failing.{named, one_fails, two_fails, three_fails}
 use Rattle.shown.specs.declared.Parts.{Parts}
@@ -85,7 +85,7 @@ module _ (P : Plan) (S : Sound P) where
     pub roles : Roles P parts
     pub failure : Failure P parts
 
-  pub cast : (rule : Rule) → (verdict_of P).outcome ≡ Fails rule → Cast (parts_for P rule)
+  pub cast : (rule : Rule) → (verdict_of P).failed ≡ Some rule → Cast (parts_for P rule)
   unfolding verdict_of verdict_at sides_at parts_for
   cast One h =
       let R = roles_with (widest_from P) (widest_node P) widest_before.sending widest.below (λ e. widest_before.other (sym e)) in

@@ -5,6 +5,7 @@ use mathlib.Core.Bool.{Bool, true, false, cond, ◌&&◌}
 use native.Mathlib.Omega.{arith}
 use borrow.Author.Tests.{ltb-true, ltb-false, eqb-true, eqb-false, le-ltb, eq-eqb}
 use lib.Dec.{eqb, ltb}
+use Rattle.std.specs.Prelude.{None}
 use Rattle.laws.specs.Below.{first_below}
 use Rattle.laws.proofs.Bools.{clash, and_true_left, and_true_right, Either, first_holds, second_holds, cond_by}
 use Rattle.laws.proofs.Belows.{any_not, any_never, least_under, least_reached, first_is, first_is_none}
@@ -14,7 +15,7 @@ use Rattle.plan.specs.Tested.{Sound}
 use Rattle.run.specs.declared.Step.{Step}
 use Rattle.run.specs.declared.Step.TheVariants.{Delay, TickOf, SendOf}
 use Rattle.run.specs.State.{node, is_about, in_range, is_out_of_step}
-use Rattle.run.specs.Steps.{step_number}
+use Rattle.run.specs.Steps.{step_refusal}
 use Rattle.run.proofs.Legal.{StepLegal, KindLegal, step_legal}
 use Rattle.shown.specs.declared.Mark.{Mark}
 use Rattle.shown.specs.declared.Mark.TheVariants.{Before, In, After}
@@ -168,5 +169,5 @@ module _ (P : Plan) (parts : Parts) (S : Sound P) (q : Place) where
       kind (TickOf i) m = record { below = m.below; ripe = omega (arith, m.due, due_low P parts S q.mark i.0) }
       kind (SendOf i) m = record { below = m.below; about = m.about }
 
-  pub next_legal : in_range P q.run ≡ true → is_out_of_step P q.run ≡ false → past_due P parts q ≡ false → step_number P q.run (next_step P parts q) ≡ 0
+  pub next_legal : in_range P q.run ≡ true → is_out_of_step P q.run ≡ false → past_due P parts q ≡ false → step_refusal P q.run (next_step P parts q) ≡ None
   next_legal r e h = step_legal P q.run (next_step P parts q) (move_legal (next_step P parts q) r e (next_move (not_late h)))

@@ -11,13 +11,13 @@ use Rattle.laws.specs.Ring.{distance}
 use Rattle.plan.specs.declared.Plan.{Plan}
 use Rattle.plan.specs.Numbers.{plan_by, slots}
 use Rattle.plan.specs.Sending.{sends}
-use Rattle.plan.specs.Tested.{is_active_outside, is_guard_or_tail_wrong, is_min_or_max_wrong, some_not_active, shares_slot, some_shared, plan_number}
+use Rattle.plan.specs.Tested.{is_active_outside, is_guard_or_tail_wrong, is_min_or_max_wrong, some_not_active, shares_slot, some_shared, plan_refusal}
 use Rattle.gap.specs.Gap.{nearest, predecessor, distance_before, gap_of}
-use Rattle.rules.specs.Rules.{sides_at, outcome_by, verdict_at, verdict_of}
+use Rattle.rules.specs.Rules.{sides_at, failed_by, verdict_at, verdict_of}
 use Rattle.run.specs.declared.Step.{Step}
 use Rattle.run.specs.State.{fresh_run, in_range, sends_apart, is_out_of_step}
 use Rattle.run.specs.Moves.{clock_after, mode_after, slot_after}
-use Rattle.run.specs.Steps.{step_number}
+use Rattle.run.specs.Steps.{step_refusal}
 use Rattle.run.proofs.Letters.{D, T, S}
 use Rattle.shown.specs.Parts.{predecessor_at, widest_from, widest_node, parts_for}
 use Rattle.shown.specs.Shown.{fresh_place, due_time, past_due, goes_first, goes_second, next_step, mark_after, given_by, given_for, given_of, shown_steps}
@@ -65,5 +65,5 @@ Right [] = Unit {0}
 Right (w ∷ more) = (shown_steps w.plan (length w.steps + 10) fresh_place ≡ w.steps) × Right more
 
 worked_right : Right worked
-unfolding shown worked Right first_given any_below all_below first_from largest_below least_below over distance sends is_active_outside is_guard_or_tail_wrong is_min_or_max_wrong some_not_active shares_slot some_shared plan_number nearest predecessor distance_before gap_of sides_at outcome_by verdict_at verdict_of fresh_run in_range sends_apart is_out_of_step clock_after mode_after slot_after step_number predecessor_at widest_from widest_node parts_for fresh_place due_time past_due goes_first goes_second next_step mark_after given_by given_for given_of
+unfolding shown worked Right first_given any_below all_below first_from largest_below least_below over distance sends is_active_outside is_guard_or_tail_wrong is_min_or_max_wrong some_not_active shares_slot some_shared plan_refusal nearest predecessor distance_before gap_of sides_at failed_by verdict_at verdict_of fresh_run in_range sends_apart is_out_of_step clock_after mode_after slot_after step_refusal predecessor_at widest_from widest_node parts_for fresh_place due_time past_due goes_first goes_second next_step mark_after given_by given_for given_of
 worked_right = (refl, (refl, (refl, (refl, (refl, (refl, (refl, tt)))))))

@@ -1,26 +1,25 @@
 -- The next step of the run shown for a failed rule, by the place alone.
-use Rattle.std.specs.Prelude.{ℕ, zero, suc, ◌-◌, Bool, true, cond, not, ◌&&◌, ◌||◌, List, [], ◌∷◌, eqb, ltb}
+use Rattle.std.specs.Prelude.{ℕ, zero, suc, ◌-◌, Bool, true, cond, not, ◌&&◌, ◌||◌, List, [], ◌∷◌, Option, None, Some, is_none, Result, Ok, Err, eqb, ltb}
+use Rattle.laws.specs.Row.{unless}
 use Rattle.laws.specs.Below.{any_below, first_below, least_below}
 use Rattle.plan.specs.declared.Plan.{Plan}
-use Rattle.plan.specs.Refusals.{run_outside}
+use Rattle.plan.specs.declared.refusal.Refusal.{Refusal}
 use Rattle.plan.specs.Sending.{own}
-use Rattle.plan.specs.Tested.{plan_number}
-use Rattle.rules.specs.declared.Outcome.{Outcome}
-use Rattle.rules.specs.declared.Outcome.TheVariants.{Accepted, Fails}
+use Rattle.plan.specs.Tested.{plan_refusal}
+use Rattle.rules.specs.declared.Rule.{Rule}
 use Rattle.rules.specs.Rules.{verdict_of}
 use Rattle.run.specs.declared.Run.{Run}
 use Rattle.run.specs.declared.Step.{Step}
 use Rattle.run.specs.declared.Step.TheVariants.{Delay, TickOf, SendOf}
-use Rattle.run.specs.State.{fresh_run, node, is_waiting, is_about, in_range, is_out_of_step}
+use Rattle.run.specs.State.{fresh_run, node, is_waiting, is_about, range_refusal, is_out_of_step}
 use Rattle.run.specs.Moves.{guard_ends, mode_after, moved}
-use Rattle.run.specs.Steps.{is_delay, is_tick_of, step_number}
+use Rattle.run.specs.Steps.{is_delay, is_tick_of, step_refusal}
 use Rattle.shown.specs.declared.Mark.{Mark}
 use Rattle.shown.specs.declared.Mark.TheVariants.{Before, In, After}
 use Rattle.shown.specs.declared.Place.{Place}
 use Rattle.shown.specs.declared.Parts.{Parts}
-use Rattle.shown.specs.declared.Next.{Next}
-use Rattle.shown.specs.declared.Next.TheVariants.{Takes, Finished, Refused}
 use Rattle.shown.specs.declared.Given.{Given}
+use Rattle.shown.specs.declared.showing.Showing.{Showing}
 use Rattle.shown.specs.Parts.{parts_for}
 
 -- Where a shown run begins: a fresh run, before the pivot.
@@ -101,41 +100,49 @@ mark_after P parts r After s = After
 abbrev pub place_after : Plan → Parts → Place → Step → Place
 place_after P parts q s = record { run = moved P q.run s; mark = mark_after P parts q.run q.mark s }
 
--- No step: the answer, and the place as it was.
-abbrev pub stays : Next → Place → Given
-stays n q = record { next = n; place = q }
-
 -- The next step where the plan passed 1 to 9, fails a rule with these parts, and the place passed 10.
--- Finished: out of step, a time past due, or a step that would not be legal.
-unfoldable pub given_by : Plan → Parts → Place → Given
+-- None, for the run is finished: out of step, a time past due, or a step that would not be legal.
+unfoldable pub given_by : Plan → Parts → Place → Option Given
 given_by P parts q =
     let s : Step = next_step P parts q in
-    let takes : Given =
-    cond (eqb (step_number P q.run s) 0) (record { next = Takes s; place = place_after P parts q s }) (stays Finished q) in
-    cond (is_out_of_step P q.run || past_due P parts q) (stays Finished q) takes
+    let takes : Option Given =
+    cond (is_none (step_refusal P q.run s)) (Some (record { step = s; place = place_after P parts q s })) None in
+    cond (is_out_of_step P q.run || past_due P parts q) None takes
 
--- The same by the verdict: an accepted plan has no shown run.
-unfoldable pub given_for : Plan → Outcome → Place → Given
-given_for P Accepted q = stays Finished q
-given_for P (Fails rule) q = given_by P (parts_for P rule) q
+-- The same by the rule that fails: an accepted plan has no shown run.
+unfoldable pub given_for : Plan → Option Rule → Place → Option Given
+given_for P None q = None
+given_for P (Some rule) q = given_by P (parts_for P rule) q
 
 -- The next step of the shown run of any plan at any place.
-unfoldable pub given_of : Plan → Place → Given
-given_of P q =
-    let tested : Given = cond (in_range P q.run) (given_for P (verdict_of P).outcome q) (stays (Refused run_outside) q) in
-    cond (eqb (plan_number P) 0) tested (stays (Refused (plan_number P)) q)
+unfoldable pub given_of : Plan → Place → Result (Option Given) Refusal
+given_of P q = unless (plan_refusal P) (unless (range_refusal P q.run) (Ok (given_for P (verdict_of P).failed q)))
+
+-- The place after what was given at a place: as it was, where no step was.
+abbrev pub place_given : Result (Option Given) Refusal → Place → Place
+place_given (Ok (Some given)) q = given.place
+place_given (Ok None) q = q
+place_given (Err r) q = q
+
+-- The place after the next step of the shown run; as it was, where there is none.
+abbrev pub place_left : Plan → Place → Place
+place_left P q = place_given (given_of P q) q
 
 -- The place after k steps of the shown run, and those steps; fewer where it ends before.
 abbrev pub place_at : Plan → ℕ → Place → Place
 place_at P zero q = q
-place_at P (suc k) q = place_at P k (given_of P q).place
+place_at P (suc k) q = place_at P k (place_left P q)
 
 -- A step that was given, in front of those that follow.
-abbrev pub and_then : Next → List Step → List Step
-and_then (Takes s) steps = s ∷ steps
-and_then Finished steps = []
-and_then (Refused n) steps = []
+abbrev pub and_then : Result (Option Given) Refusal → List Step → List Step
+and_then (Ok (Some given)) steps = given.step ∷ steps
+and_then (Ok None) steps = []
+and_then (Err r) steps = []
 
 abbrev pub shown_steps : Plan → ℕ → Place → List Step
 shown_steps P zero q = []
-shown_steps P (suc k) q = and_then (given_of P q).next (shown_steps P k (given_of P q).place)
+shown_steps P (suc k) q = and_then (given_of P q) (shown_steps P k (place_left P q))
+
+-- The place of a run that is shown, without the plan and the parts.
+abbrev pub place_of : Showing → Place
+place_of showing = record { run = showing.run.run; mark = showing.mark }

@@ -1,14 +1,17 @@
 // The run shown for a plan that fails a rule: its places, and where it begins.
 #![tactic(auto)]
 
+mod showing;
+
 ghost use Rattle.std.specs.Prelude.{◌≡◌};
 ghost use Rattle.shown.specs.Shown.{fresh_place};
 
 use plan::{Node, Slot};
 use run::{Run, Step, fresh};
+pub use showing::Showing;
 
 // Before, in or after the pivot.
-#[derive(Clone, Copy)]
+#[derive(Clone, Copy, Debug, PartialEq, Eq)]
 pub enum Mark {
     Before,
     In,
@@ -16,31 +19,24 @@ pub enum Mark {
 }
 
 // A place in a shown run, which the caller hands back for the next step.
-#[derive(Clone, Copy)]
+#[derive(Clone, Copy, Debug)]
 pub struct Place {
     pub run: Run,
     pub mark: Mark,
 }
 
 // Who plays which part: the slot p, the node that sends in it, and the fast node.
-#[derive(Clone, Copy)]
+#[derive(Clone, Copy, Debug)]
 pub struct Parts {
     pub p: Slot,
     pub sender: Node,
     pub fast: Node,
 }
 
-#[derive(Clone, Copy)]
-pub enum Next {
-    Takes(Step),
-    Finished,
-    Refused(u8),
-}
-
-// The next step and the place after it; where there is no step, the place as it was.
-#[derive(Clone, Copy)]
+// The next step, and the place after it.
+#[derive(Clone, Copy, Debug)]
 pub struct Given {
-    pub next: Next,
+    pub step: Step,
     pub place: Place,
 }
 
@@ -49,9 +45,8 @@ pub struct Given {
 pub fn fresh_place() -> Place
     ensures { result ≡ fresh_place }
 {
-    let run = fresh();
     Place {
-        run: run,
+        run: fresh(),
         mark: Mark::Before,
     }
 }

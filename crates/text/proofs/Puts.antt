@@ -1,23 +1,16 @@
 -- Texts put into a buffer one after the other: what two puts in a row leave is what one put of both texts leaves.
-use Prim.Native.Nat.{ℕ, suc, ◌+◌, ◌≤◌, ◌<◌}
+use Prim.Native.Nat.{ℕ, suc, ◌+◌, ◌≤◌}
 use mathlib.Core.Path.{◌≡◌, sym, ap, ◌∙◌}
 use mathlib.Core.List.{List, [], ◌∷◌, ◌++◌}
 use native.Mathlib.Nat.{add-zero}
-use native.Mathlib.Numerals.{add-one}
 use native.Mathlib.Omega.{arith}
-use lib.ListN.{length, get_or, take, set, length-append}
-use lib.Seq.{sets, take-suc, length-take-le}
+use lib.ListN.{length, set, length-append}
+use lib.Seq.{sets}
 use Rattle.text.specs.Text.{Put}
 
 pub sets_both : (l : List ℕ) (at : ℕ) (xs ys : List ℕ) → sets l at (xs ++ ys) ≡ sets (sets l at xs) (at + length xs) ys
 sets_both l at [] ys = rw add-zero
 sets_both l at (x ∷ xs) ys = let e : suc at + length xs ≡ at + suc (length xs) = omega arith in rw (← e) (sets_both (set l at x) (suc at) xs ys)
-
--- the first n bytes of a word are there, and then one more is
-pub sets_more : (l : List ℕ) (at n : ℕ) (word : List ℕ) → n < length word → set (sets l at (take n word)) (at + n) (get_or word n 0) ≡ sets l at (take (n + 1) word)
-sets_more l at n word h =
-    let e : length (take n word) ≡ n = length-take-le n word (omega arith) in
-    rw (add-one, take-suc word n 0 h, sets_both l at (take n word), e)
 
 -- one text after the other
 infixl 40 ◌then◌

@@ -2,24 +2,32 @@
 // so much room can be asked.
 #![tactic(auto)]
 
-ghost use Rattle.std.specs.Prelude.{◌≡◌, [], ◌∷◌, ◌++◌, ◌+◌, ◌≤◌, length, leb};
+ghost use Rattle.std.specs.Prelude.{◌≡◌, ℕ, List, [], ◌∷◌, ◌++◌, ◌+◌, ◌≤◌, length, leb};
 ghost use Rattle.text.specs.Text.{decimal, Put};
-
-// Where a text ended that was written, or that there was no room for it and nothing was written.
-#[derive(Clone, Copy)]
-pub enum Wrote {
-    To(usize),
-    NoRoom,
-}
+ghost use Rattle.text.specs.Written.{TakesRoom, Puts, wrote_of, buffer_of};
 
 // Whether `room` bytes are left from a place on in a buffer of `all` bytes.
 pub fn has_room(all: usize, at: usize, room: usize) -> bool
     ensures { result ≡ leb (at + room) all }
 {
-    if all < room {
-        return false;
+    room <= all && at <= all - room
+}
+
+// What `put` puts from `at` on, where `room` bytes are left for it, and where that ends. None: they are not, and nothing is put.
+pub fn put_in_room<F: FnOnce(&mut [u8]) -> usize>(
+    out: &mut [u8],
+    at: usize,
+    room: usize,
+    put: F,
+) -> Option<usize>
+    requires { TakesRoom F.FnOnce put room out.old at }
+    ensures value { (text : List ℕ) → Puts F.FnOnce put room out.old at text → result ≡ wrote_of room out.old at text }
+    ensures out_after { (text : List ℕ) → Puts F.FnOnce put room out.old at text → out.new ≡ buffer_of room out.old at text }
+{
+    if has_room(out.len(), at, room) {
+        return Some(put(out));
     }
-    at <= all - room
+    None
 }
 
 pub fn put_byte(out: &mut [u8], at: usize, byte: u8) -> usize
@@ -34,10 +42,9 @@ pub fn put_word(out: &mut [u8], at: usize, word: &[u8]) -> usize
     requires { at + length word.now ≤ length out.old }
     ensures { Put (length word.now) out.old at word.now out.new result }
 {
-    for i in 0..word.len() {
-        out[at + i] = word[i];
-    }
-    at + word.len()
+    let end = at + word.len();
+    out[at..end].copy_from_slice(word);
+    end
 }
 
 // A number in decimal: its tenth, then its last digit.

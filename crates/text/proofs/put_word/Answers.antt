@@ -1,10 +1,13 @@
-use Rattle.std.proofs.Common.{◌≡◌, ◌∙◌, length, arith}
-use lib.Seq.{take-length}
-use Rattle.text.proofs.Puts.{sets_more}
+-- The copy stands from `at` on, and the bytes round it as they were.
+use Rattle.std.proofs.Common.{◌≡◌, ◌+◌, ◌-◌, ◌++◌, take, length, sym, ap, refl, ◌∙◌, arith}
+use Rattle.std.proofs.lemmas.List.{append_assoc, drop-drop}
+use Rattle.std.proofs.lemmas.List.Edits.{sets-eq}
 use Rattle.text.proofs.put_word.Goals as goal
 
-pub loop-i-preserved : goal.loop-i-preserved
-loop-i-preserved c = rw c.loop-i.invariant (sets_more _ _ c.loop-i.i _ (omega arith))
-
 pub returns : goal.returns
-returns c = let e : c.loop-i.i ≡ length c.args.word.now = omega arith in record { holds = c.loop-i.invariant ∙ rw (e, take-length); ends = omega arith; within = omega arith }
+returns c =
+    let xs = c.args.out.now in
+    let word = c.args.word.now in
+    let e : c.args.at + length word - c.args.at ≡ length word = omega arith in
+    let placed = sym (sets-eq word xs c.args.at (omega arith) ∙ append_assoc (take c.args.at xs) word _) in
+    record { holds = rw (e, c.copy_from_slice.ensures.after) (ap (λ rest. take c.args.at xs ++ (word ++ rest)) (drop-drop (length word) c.args.at xs) ∙ placed); ends = refl; within = omega arith }
