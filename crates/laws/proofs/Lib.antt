@@ -8,3 +8,4 @@ pub mod Ring
 pub mod Sums
 pub mod Digits
 pub mod Same
+pub mod Chains

@@ -1,0 +1,161 @@
+-- What the library's chains over a list compute, as questions about the numbers below n: the first n places of xs, and each number with its place.
+use Prim.Native.Nat.{ℕ, zero, suc, ◌+◌, ◌≤◌, ◌<◌, min, max}
+use mathlib.Core.Path.{◌≡◌, refl, sym, ◌∙◌}
+use mathlib.Core.Bool.{Bool, true, false, cond, not}
+use mathlib.Core.List.{List, [], ◌∷◌}
+use native.Mathlib.Nat.{not-suc-le-zero, le_of_suc-le-suc}
+use native.Mathlib.Numerals.{add-one}
+use native.Mathlib.Omega.{arith}
+use lib.Dec.{ltb}
+use lib.ListN.{length, take, get_or, length-take}
+use Rattle.std.specs.declared.option.Option.{Option}
+use Rattle.std.specs.declared.option.Option.TheVariants.{None, Some}
+use Rattle.std.specs.List.{list_any, list_all, position_or_len, position, enumerate_from, fold}
+use Rattle.std.proofs.lemmas.List.Folds.{list_any_more, list_all_more}
+use Rattle.std.proofs.lemmas.List.Sums.{fold_more}
+use Rattle.std.proofs.lemmas.List.FromFn.{length-enumerate_from, get_or-enumerate_from}
+use Rattle.laws.specs.Below.{any_below, all_below, first_from, first_below, largest_below, least_below}
+use borrow.Author.Tests.{ltb-true, ltb-false}
+use Rattle.laws.proofs.Belows.{Found, found, none, first_found, any_never}
+
+-- equal answers below n
+
+pub any_same : (n : ℕ) (f g : ℕ → Bool) → ((i : ℕ) → i < n → f i ≡ g i) → any_below n f ≡ any_below n g
+unfolding any_below
+any_same zero f g h = refl
+any_same (suc n) f g h = rw (any_same n f g (λ i l. h i (omega arith)), h n (omega arith))
+
+pub all_same : (n : ℕ) (f g : ℕ → Bool) → ((i : ℕ) → i < n → f i ≡ g i) → all_below n f ≡ all_below n g
+unfolding all_below
+all_same zero f g h = refl
+all_same (suc n) f g h = rw (all_same n f g (λ i l. h i (omega arith)), h n (omega arith))
+
+first_from_same : (left i : ℕ) (f g : ℕ → Bool) → ((j : ℕ) → i ≤ j → j < i + left → f j ≡ g j) → first_from f left i ≡ first_from g left i
+unfolding first_from
+first_from_same zero i f g h = refl
+first_from_same (suc left) i f g h = go (f i) (g i) (h i (omega arith) (omega arith)) (first_from_same left (suc i) f g (λ j l m. h j (omega arith) (omega arith)))
+  where
+    go : (a b : Bool) → a ≡ b → first_from f left (suc i) ≡ first_from g left (suc i) → ◌≡◌ {A = ℕ} (elim a [ true ↦ i | false ↦ first_from f left (suc i) ]) (elim b [ true ↦ i | false ↦ first_from g left (suc i) ])
+    go true b e r = rw (sym e)
+    go false b e r = rw (sym e) r
+
+pub first_same : (n : ℕ) (f g : ℕ → Bool) → ((i : ℕ) → i < n → f i ≡ g i) → first_below n f ≡ first_below n g
+first_same n f g h = first_from_same n 0 f g (λ j l m. h j (omega arith))
+
+pub least_same : (top n : ℕ) (f g : ℕ → ℕ) → ((i : ℕ) → i < n → f i ≡ g i) → least_below top n f ≡ least_below top n g
+unfolding least_below
+least_same top zero f g h = refl
+least_same top (suc n) f g h = rw (least_same top n f g (λ i l. h i (omega arith)), h n (omega arith))
+
+-- where the first that passes is n, none below n passes
+pub none_before : (n : ℕ) (f : ℕ → Bool) → first_below n f ≡ n → (j : ℕ) → j < n → f j ≡ false
+none_before n f e = go (first_found n f) e
+  where
+    go : {i : ℕ} → Found n f i → i ≡ n → (j : ℕ) → j < n → f j ≡ false
+    go (found l t b) z j m = absurd (omega arith)
+    go (none z b) w j m = b j m
+
+module _ {A : Type 0} where
+  -- some element passes, every element does
+
+  pub any_chain : (p : A → Bool) (xs : List A) (n : ℕ) (d : A) → n ≤ length xs → list_any p (take n xs) ≡ any_below n (λ i. p (get_or xs i d))
+  unfolding any_below
+  any_chain p xs zero d h = refl
+  any_chain p xs (suc n) d h = rw (sym (any_chain p xs n d (omega arith))) (rw add-one at (list_any_more p xs n d (omega arith)))
+
+  pub all_chain : (p : A → Bool) (xs : List A) (n : ℕ) (d : A) → n ≤ length xs → list_all p (take n xs) ≡ all_below n (λ i. p (get_or xs i d))
+  unfolding all_below
+  all_chain p xs zero d h = refl
+  all_chain p xs (suc n) d h = rw (sym (all_chain p xs n d (omega arith))) (rw add-one at (list_all_more p xs n d (omega arith)))
+
+  take_whole : (xs : List A) (n : ℕ) → length xs ≡ n → take n xs ≡ xs
+  take_whole [] zero e = refl
+  take_whole [] (suc n) e = refl
+  take_whole (x ∷ xs) zero e = absurd (omega arith)
+  take_whole (x ∷ xs) (suc n) e = rw (take_whole xs n (omega arith))
+
+  -- the same of a whole list
+  pub any_whole : (p : A → Bool) (xs : List A) (n : ℕ) (d : A) → length xs ≡ n → list_any p xs ≡ any_below n (λ i. p (get_or xs i d))
+  any_whole p xs n d e = rw (take_whole xs n e) at (any_chain p xs n d (omega arith))
+
+  pub all_whole : (p : A → Bool) (xs : List A) (n : ℕ) (d : A) → length xs ≡ n → list_all p xs ≡ all_below n (λ i. p (get_or xs i d))
+  all_whole p xs n d e = rw (take_whole xs n e) at (all_chain p xs n d (omega arith))
+
+  -- the first that passes
+
+  first_chain_from : (p : A → Bool) (f : ℕ → Bool) (xs : List A) (n j : ℕ) (d : A) → n ≤ length xs → ((k : ℕ) → f (j + k) ≡ p (get_or xs k d)) → j + position_or_len p (take n xs) ≡ first_from f n j
+  unfolding first_from
+  first_chain_from p f xs zero j d h e = omega arith
+  first_chain_from p f [] (suc n) j d h e = absurd (not-suc-le-zero h)
+  first_chain_from p f (x ∷ xs) (suc n) j d h e = go (p x) (f j) here (first_chain_from p f xs n (suc j) d (le_of_suc-le-suc h) next)
+    where
+      here : f j ≡ p x
+      here = let z : j + 0 ≡ j = omega arith in rw z at (e 0)
+
+      next : (k : ℕ) → f (suc j + k) ≡ p (get_or xs k d)
+      next k = let z : j + suc k ≡ suc j + k = omega arith in rw z at (e (suc k))
+
+      go : (a b : Bool) → b ≡ a → suc j + position_or_len p (take n xs) ≡ first_from f n (suc j)
+          → j + cond (not a) (1 + position_or_len p (take n xs)) 0 ≡ elim b [ true ↦ j | false ↦ first_from f n (suc j) ]
+      go true b q r = rw q (let z : j + 0 ≡ j = omega arith in z)
+      go false b q r = rw (q, sym r) (let z : j + (1 + position_or_len p (take n xs)) ≡ suc j + position_or_len p (take n xs) = omega arith in z)
+
+  pub first_chain : (p : A → Bool) (xs : List A) (n : ℕ) (d : A) → n ≤ length xs → position_or_len p (take n xs) ≡ first_below n (λ i. p (get_or xs i d))
+  first_chain p xs n d h = (let z : position_or_len p (take n xs) ≡ 0 + position_or_len p (take n xs) = omega arith in z) ∙ first_chain_from p (λ i. p (get_or xs i d)) xs n 0 d h (λ k. let z : 0 + k ≡ k = omega arith in rw z)
+
+  pub position_chain : (p : A → Bool) (xs : List A) (n : ℕ) (d : A) → n ≤ length xs
+      → position p (take n xs) ≡ cond (ltb (first_below n (λ i. p (get_or xs i d))) n) (Some (first_below n (λ i. p (get_or xs i d)))) None
+  position_chain p xs n d h =
+      let l : length (take n xs) ≡ n = omega (arith, length-take n xs) in
+      rw (first_chain p xs n d h, l)
+
+  -- where it gives a place, the place is the first; where it gives none, none is
+  pub position_found : (p : A → Bool) (xs : List A) (n : ℕ) (d : A) (i : ℕ) → n ≤ length xs → position p (take n xs) ≡ Some i → (first_below n (λ k. p (get_or xs k d)) ≡ i) × (i < n)
+  position_found p xs n d i h e = go (first_below n (λ k. p (get_or xs k d))) (ltb (first_below n (λ k. p (get_or xs k d))) n) refl (sym (position_chain p xs n d h) ∙ e)
+    where
+      go : (k : ℕ) (b : Bool) → ltb k n ≡ b → cond b (Some k) None ≡ Some i → (k ≡ i) × (i < n)
+      go k true l q = let z : k ≡ i = cc in (z, omega (arith, z, ltb-true k n l))
+      go k false l q = cc
+
+  pub position_none : (p : A → Bool) (xs : List A) (n : ℕ) (d : A) → n ≤ length xs → position p (take n xs) ≡ None → first_below n (λ k. p (get_or xs k d)) ≡ n
+  position_none p xs n d h e = go (first_found n (λ k. p (get_or xs k d))) (ltb (first_below n (λ k. p (get_or xs k d))) n) refl (sym (position_chain p xs n d h) ∙ e)
+    where
+      go : {k : ℕ} → Found n (λ k. p (get_or xs k d)) k → (b : Bool) → ltb k n ≡ b → ◌≡◌ {A = Option ℕ} (cond b (Some k) None) None → k ≡ n
+      go (none z f) b l q = z
+      go {k} (found l t f) true m q = cc
+      go {k} (found l t f) false m q = absurd (omega (arith, ltb-false k n m))
+
+  pub position_none_any : (p : A → Bool) (xs : List A) (n : ℕ) (d : A) → n ≤ length xs → position p (take n xs) ≡ None → any_below n (λ k. p (get_or xs k d)) ≡ false
+  position_none_any p xs n d h e = any_never n (λ k. p (get_or xs k d)) (none_before n (λ k. p (get_or xs k d)) (position_none p xs n d h e))
+
+  -- the largest value, and the least
+
+  pub largest_chain : (f : A → ℕ) (xs : List A) (n : ℕ) (d : A) → n ≤ length xs → fold (λ a x. max a (f x)) 0 (take n xs) ≡ largest_below n (λ i. f (get_or xs i d))
+  unfolding largest_below
+  largest_chain f xs zero d h = refl
+  largest_chain f xs (suc n) d h = rw (sym (largest_chain f xs n d (omega arith))) (rw add-one at (fold_more (λ a x. max a (f x)) 0 xs n d (omega arith)))
+
+  pub least_chain : (f : A → ℕ) (top : ℕ) (xs : List A) (n : ℕ) (d : A) → n ≤ length xs → fold (λ a x. min a (f x)) top (take n xs) ≡ least_below top n (λ i. f (get_or xs i d))
+  unfolding least_below
+  least_chain f top xs zero d h = refl
+  least_chain f top xs (suc n) d h = rw (sym (least_chain f top xs n d (omega arith))) (rw add-one at (fold_more (λ a x. min a (f x)) top xs n d (omega arith)))
+
+module _ {A : Type 0} where
+  -- each element beside its place
+
+  take_enumerate : (xs : List A) (n k : ℕ) → take n (enumerate_from k xs) ≡ enumerate_from k (take n xs)
+  take_enumerate xs zero k = refl
+  take_enumerate [] (suc n) k = refl
+  take_enumerate (x ∷ xs) (suc n) k = rw (take_enumerate xs n (k + 1))
+
+  pub any_enumerate : (q : ℕ → A → Bool) (xs : List A) (n : ℕ) (d : A) → n ≤ length xs → list_any (λ e. q e.0 e.1) (enumerate_from 0 (take n xs)) ≡ any_below n (λ i. q i (get_or xs i d))
+  any_enumerate q xs n d h =
+      let l : n ≤ length (enumerate_from 0 xs) = omega (arith, length-enumerate_from 0 xs) in
+      rw (sym (take_enumerate xs n 0)) (any_chain (λ (e : ℕ × A). q e.0 e.1) (enumerate_from 0 xs) n (0, d) l
+          ∙ any_same n (λ i. q (get_or (enumerate_from 0 xs) i (0, d)).0 (get_or (enumerate_from 0 xs) i (0, d)).1) (λ i. q i (get_or xs i d)) (λ i m. rw (get_or-enumerate_from 0 xs i (0, d) (omega arith), (let z : 0 + i ≡ i = omega arith in z))))
+
+  pub all_enumerate : (q : ℕ → A → Bool) (xs : List A) (n : ℕ) (d : A) → n ≤ length xs → list_all (λ e. q e.0 e.1) (enumerate_from 0 (take n xs)) ≡ all_below n (λ i. q i (get_or xs i d))
+  all_enumerate q xs n d h =
+      let l : n ≤ length (enumerate_from 0 xs) = omega (arith, length-enumerate_from 0 xs) in
+      rw (sym (take_enumerate xs n 0)) (all_chain (λ (e : ℕ × A). q e.0 e.1) (enumerate_from 0 xs) n (0, d) l
+          ∙ all_same n (λ i. q (get_or (enumerate_from 0 xs) i (0, d)).0 (get_or (enumerate_from 0 xs) i (0, d)).1) (λ i. q i (get_or xs i d)) (λ i m. rw (get_or-enumerate_from 0 xs i (0, d) (omega arith), (let z : 0 + i ≡ i = omega arith in z))))
