@@ -10,13 +10,20 @@ use lib.Dec.{ltb}
 use lib.ListN.{length, take, get_or, length-take}
 use Rattle.std.specs.declared.option.Option.{Option}
 use Rattle.std.specs.declared.option.Option.TheVariants.{None, Some}
-use Rattle.std.specs.List.{list_any, list_all, position_or_len, position, enumerate_from, fold}
+use Rattle.std.specs.List.{list_any, list_all, position_or_len, position, enumerate_from, range_with_len, fold}
 use Rattle.std.proofs.lemmas.List.Folds.{list_any_more, list_all_more}
 use Rattle.std.proofs.lemmas.List.Sums.{fold_more}
-use Rattle.std.proofs.lemmas.List.FromFn.{length-enumerate_from, get_or-enumerate_from}
+use Rattle.std.proofs.lemmas.List.FromFn.{length-enumerate_from, get_or-enumerate_from, length-range_with_len, get_or-range_with_len}
+use Rattle.std.specs.Iterator.{YieldsThen}
+use Rattle.std.specs.Fn.{Called}
+use Rattle.std.specs.Option.{MatchOption, unwrap_or}
+use Rattle.std.specs.List.{FoldsTo}
+use denote.Param.Members.{Mut}
+use Rattle.std.proofs.lemmas.Iterator.{YieldsList}
+use Rattle.std.proofs.lemmas.Iterator.Search.{any_from_yields_List, all_from_yields_List, position_from_yields_List}
 use Rattle.laws.specs.Below.{any_below, all_below, first_from, first_below, largest_below, least_below}
 use borrow.Author.Tests.{ltb-true, ltb-false}
-use Rattle.laws.proofs.Belows.{Found, found, none, first_found, any_never}
+use Rattle.laws.proofs.Belows.{Found, found, none, first_found, any_never, largest_same}
 
 -- equal answers below n
 
@@ -159,3 +166,68 @@ module _ {A : Type 0} where
       let l : n ≤ length (enumerate_from 0 xs) = omega (arith, length-enumerate_from 0 xs) in
       rw (sym (take_enumerate xs n 0)) (all_chain (λ (e : ℕ × A). q e.0 e.1) (enumerate_from 0 xs) n (0, d) l
           ∙ all_same n (λ i. q (get_or (enumerate_from 0 xs) i (0, d)).0 (get_or (enumerate_from 0 xs) i (0, d)).1) (λ i. q i (get_or xs i d)) (λ i m. rw (get_or-enumerate_from 0 xs i (0, d) (omega arith), (let z : 0 + i ≡ i = omega arith in z))))
+
+  pub position_enumerate : (q : ℕ → A → Bool) (xs : List A) (n : ℕ) (d : A) → n ≤ length xs
+      → position (λ e. q e.0 e.1) (enumerate_from 0 (take n xs)) ≡ cond (ltb (first_below n (λ i. q i (get_or xs i d))) n) (Some (first_below n (λ i. q i (get_or xs i d)))) None
+  position_enumerate q xs n d h =
+      let l : n ≤ length (enumerate_from 0 xs) = omega (arith, length-enumerate_from 0 xs) in
+      let same : first_below n (λ i. q (get_or (enumerate_from 0 xs) i (0, d)).0 (get_or (enumerate_from 0 xs) i (0, d)).1) ≡ first_below n (λ i. q i (get_or xs i d)) =
+          first_same n (λ i. q (get_or (enumerate_from 0 xs) i (0, d)).0 (get_or (enumerate_from 0 xs) i (0, d)).1) (λ i. q i (get_or xs i d)) (λ i m. rw (get_or-enumerate_from 0 xs i (0, d) (omega arith), (let z : 0 + i ≡ i = omega arith in z))) in
+      rw (sym (take_enumerate xs n 0), sym same) (position_chain (λ (e : ℕ × A). q e.0 e.1) (enumerate_from 0 xs) n (0, d) l)
+
+-- the numbers below n themselves
+
+range_at : (n i : ℕ) → i < n → get_or (range_with_len 0 n) i 0 ≡ i
+range_at n i l = get_or-range_with_len 0 n i 0 l ∙ (let z : 0 + i ≡ i = omega arith in z)
+
+pub any_range : (f : ℕ → Bool) (n : ℕ) → list_any f (range_with_len 0 n) ≡ any_below n f
+any_range f n = any_whole f (range_with_len 0 n) n 0 (length-range_with_len 0 n) ∙ any_same n (λ i. f (get_or (range_with_len 0 n) i 0)) f (λ i l. rw (range_at n i l))
+
+pub all_range : (f : ℕ → Bool) (n : ℕ) → list_all f (range_with_len 0 n) ≡ all_below n f
+all_range f n = all_whole f (range_with_len 0 n) n 0 (length-range_with_len 0 n) ∙ all_same n (λ i. f (get_or (range_with_len 0 n) i 0)) f (λ i l. rw (range_at n i l))
+
+pub position_range : (f : ℕ → Bool) (n : ℕ) → position f (range_with_len 0 n) ≡ cond (ltb (first_below n f) n) (Some (first_below n f)) None
+position_range f n =
+    let e : length (range_with_len 0 n) ≡ n = length-range_with_len 0 n in
+    let same : first_below n (λ i. f (get_or (range_with_len 0 n) i 0)) ≡ first_below n f = first_same n (λ i. f (get_or (range_with_len 0 n) i 0)) f (λ i l. rw (range_at n i l)) in
+    rw (sym same) (rw (take_whole (range_with_len 0 n) n e) at (position_chain f (range_with_len 0 n) n 0 (omega arith)))
+
+pub largest_range : (f : ℕ → ℕ) (n : ℕ) → fold (λ a i. max a (f i)) 0 (range_with_len 0 n) ≡ largest_below n f
+largest_range f n =
+    let e : length (range_with_len 0 n) ≡ n = length-range_with_len 0 n in
+    rw (take_whole (range_with_len 0 n) n e) at (largest_chain f (range_with_len 0 n) n 0 (omega arith))
+        ∙ largest_same n (λ i. f (get_or (range_with_len 0 n) i 0)) f (λ i l. rw (range_at n i l))
+
+pub least_range : (f : ℕ → ℕ) (top n : ℕ) → fold (λ a i. min a (f i)) top (range_with_len 0 n) ≡ least_below top n f
+least_range f top n =
+    let e : length (range_with_len 0 n) ≡ n = length-range_with_len 0 n in
+    rw (take_whole (range_with_len 0 n) n e) at (least_chain f top (range_with_len 0 n) n 0 (omega arith))
+        ∙ least_same top n (λ i. f (get_or (range_with_len 0 n) i 0)) f (λ i l. rw (range_at n i l))
+
+-- what a call answered, where its chain gives the first n of xs and its closure computes p
+
+module _ {S A F B : Type 0} {steps : S → Option A → S → Type 0} {v : A → B} {g : Mut F (A × Unit {0}) Bool} {s : S} (p : B → Bool) (xs : List B) (n : ℕ) (d : B) (u : S) (f : F) where
+  pub any_in : {r : Bool} → n ≤ length xs
+      → (ys : List A) × (o : Option A) × (j : F) × YieldsThen steps s ys o u × FoldsTo (λ p x q. Called g p (x, tt) false q) f ys j × MatchOption o (r ≡ false) (λ x. (r ≡ true) × ((h : F) × Called g j (x, tt) true h))
+      → YieldsList steps v s (take n xs) → ((x : A) (b : Bool) (q : F) → Called g f (x, tt) b q → (q ≡ f) × (b ≡ p (v x))) → r ≡ any_below n (λ i. p (get_or xs i d))
+  any_in {r} h ran road k = any_from_yields_List p u f r ran road k ∙ any_chain p xs n d h
+
+  pub all_in : {r : Bool} → n ≤ length xs
+      → (ys : List A) × (o : Option A) × (j : F) × YieldsThen steps s ys o u × FoldsTo (λ p x q. Called g p (x, tt) true q) f ys j × MatchOption o (r ≡ true) (λ x. (r ≡ false) × ((h : F) × Called g j (x, tt) false h))
+      → YieldsList steps v s (take n xs) → ((x : A) (b : Bool) (q : F) → Called g f (x, tt) b q → (q ≡ f) × (b ≡ p (v x))) → r ≡ all_below n (λ i. p (get_or xs i d))
+  all_in {r} h ran road k = all_from_yields_List p u f r ran road k ∙ all_chain p xs n d h
+
+  pub position_in : {r : Option ℕ} → n ≤ length xs
+      → (ys : List A) × (o : Option A) × (j : F) × YieldsThen steps s ys o u × FoldsTo (λ p x q. Called g p (x, tt) false q) f ys j × MatchOption o (r ≡ None) (λ x. (r ≡ Some (length ys)) × ((h : F) × Called g j (x, tt) true h))
+      → YieldsList steps v s (take n xs) → ((x : A) (b : Bool) (q : F) → Called g f (x, tt) b q → (q ≡ f) × (b ≡ p (v x)))
+      → r ≡ cond (ltb (first_below n (λ i. p (get_or xs i d))) n) (Some (first_below n (λ i. p (get_or xs i d)))) None
+  position_in {r} h ran road k = position_from_yields_List p u f r ran road k ∙ position_chain p xs n d h
+
+-- the place that a search gave, or n where it gave none
+pub first_or_end : (n : ℕ) (f : ℕ → Bool) {r : Option ℕ} → r ≡ cond (ltb (first_below n f) n) (Some (first_below n f)) None → unwrap_or r n ≡ first_below n f
+first_or_end n f e = rw e (go (first_found n f) (ltb (first_below n f) n) refl)
+  where
+    go : {k : ℕ} → Found n f k → (b : Bool) → ltb k n ≡ b → unwrap_or (cond b (Some k) None) n ≡ k
+    go w true q = refl
+    go (none z h) false q = sym z
+    go {k} (found l t h) false q = absurd (omega (arith, ltb-false k n q))
