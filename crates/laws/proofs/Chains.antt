@@ -223,6 +223,42 @@ module _ {S A F B : Type 0} {steps : S → Option A → S → Type 0} {v : A →
       → r ≡ cond (ltb (first_below n (λ i. p (get_or xs i d))) n) (Some (first_below n (λ i. p (get_or xs i d)))) None
   position_in {r} h ran road k = position_from_yields_List p u f r ran road k ∙ position_chain p xs n d h
 
+-- the same over each element beside its place, where the chain goes through `enumerate`
+module _ {S A F B : Type 0} {steps : S → Option A → S → Type 0} {v : A → ℕ × B} {g : Mut F (A × Unit {0}) Bool} {s : S} (q : ℕ → B → Bool) (xs : List B) (n : ℕ) (d : B) (u : S) (f : F) where
+  pub any_in_enumerate : {r : Bool} → n ≤ length xs
+      → (ys : List A) × (o : Option A) × (j : F) × YieldsThen steps s ys o u × FoldsTo (λ p x q. Called g p (x, tt) false q) f ys j × MatchOption o (r ≡ false) (λ x. (r ≡ true) × ((h : F) × Called g j (x, tt) true h))
+      → YieldsList steps v s (enumerate_from 0 (take n xs)) → ((x : A) (b : Bool) (t : F) → Called g f (x, tt) b t → (t ≡ f) × (b ≡ q (v x).0 (v x).1)) → r ≡ any_below n (λ i. q i (get_or xs i d))
+  any_in_enumerate {r} h ran road k = any_from_yields_List (λ (e : ℕ × B). q e.0 e.1) u f r ran road k ∙ any_enumerate q xs n d h
+
+  pub all_in_enumerate : {r : Bool} → n ≤ length xs
+      → (ys : List A) × (o : Option A) × (j : F) × YieldsThen steps s ys o u × FoldsTo (λ p x q. Called g p (x, tt) true q) f ys j × MatchOption o (r ≡ true) (λ x. (r ≡ false) × ((h : F) × Called g j (x, tt) false h))
+      → YieldsList steps v s (enumerate_from 0 (take n xs)) → ((x : A) (b : Bool) (t : F) → Called g f (x, tt) b t → (t ≡ f) × (b ≡ q (v x).0 (v x).1)) → r ≡ all_below n (λ i. q i (get_or xs i d))
+  all_in_enumerate {r} h ran road k = all_from_yields_List (λ (e : ℕ × B). q e.0 e.1) u f r ran road k ∙ all_enumerate q xs n d h
+
+  pub position_in_enumerate : {r : Option ℕ} → n ≤ length xs
+      → (ys : List A) × (o : Option A) × (j : F) × YieldsThen steps s ys o u × FoldsTo (λ p x q. Called g p (x, tt) false q) f ys j × MatchOption o (r ≡ None) (λ x. (r ≡ Some (length ys)) × ((h : F) × Called g j (x, tt) true h))
+      → YieldsList steps v s (enumerate_from 0 (take n xs)) → ((x : A) (b : Bool) (t : F) → Called g f (x, tt) b t → (t ≡ f) × (b ≡ q (v x).0 (v x).1))
+      → r ≡ cond (ltb (first_below n (λ i. q i (get_or xs i d))) n) (Some (first_below n (λ i. q i (get_or xs i d)))) None
+  position_in_enumerate {r} h ran road k = position_from_yields_List (λ (e : ℕ × B). q e.0 e.1) u f r ran road k ∙ position_enumerate q xs n d h
+
+-- the same over the numbers below n, as `(0..n)` gives them
+
+module _ {S F : Type 0} {steps : S → Option ℕ → S → Type 0} {g : Mut F (ℕ × Unit {0}) Bool} {s : S} (p : ℕ → Bool) (n : ℕ) (u : S) (f : F) where
+  pub any_in_range : {r : Bool}
+      → (ys : List ℕ) × (o : Option ℕ) × (j : F) × YieldsThen steps s ys o u × FoldsTo (λ p x q. Called g p (x, tt) false q) f ys j × MatchOption o (r ≡ false) (λ x. (r ≡ true) × ((h : F) × Called g j (x, tt) true h))
+      → YieldsList steps (λ x. x) s (range_with_len 0 n) → ((x : ℕ) (b : Bool) (q : F) → Called g f (x, tt) b q → (q ≡ f) × (b ≡ p x)) → r ≡ any_below n p
+  any_in_range {r} ran road k = any_from_yields_List p u f r ran road k ∙ any_range p n
+
+  pub all_in_range : {r : Bool}
+      → (ys : List ℕ) × (o : Option ℕ) × (j : F) × YieldsThen steps s ys o u × FoldsTo (λ p x q. Called g p (x, tt) true q) f ys j × MatchOption o (r ≡ true) (λ x. (r ≡ false) × ((h : F) × Called g j (x, tt) false h))
+      → YieldsList steps (λ x. x) s (range_with_len 0 n) → ((x : ℕ) (b : Bool) (q : F) → Called g f (x, tt) b q → (q ≡ f) × (b ≡ p x)) → r ≡ all_below n p
+  all_in_range {r} ran road k = all_from_yields_List p u f r ran road k ∙ all_range p n
+
+  pub position_in_range : {r : Option ℕ}
+      → (ys : List ℕ) × (o : Option ℕ) × (j : F) × YieldsThen steps s ys o u × FoldsTo (λ p x q. Called g p (x, tt) false q) f ys j × MatchOption o (r ≡ None) (λ x. (r ≡ Some (length ys)) × ((h : F) × Called g j (x, tt) true h))
+      → YieldsList steps (λ x. x) s (range_with_len 0 n) → ((x : ℕ) (b : Bool) (q : F) → Called g f (x, tt) b q → (q ≡ f) × (b ≡ p x)) → r ≡ cond (ltb (first_below n p) n) (Some (first_below n p)) None
+  position_in_range {r} ran road k = position_from_yields_List p u f r ran road k ∙ position_range p n
+
 -- the place that a search gave, or n where it gave none
 pub first_or_end : (n : ℕ) (f : ℕ → Bool) {r : Option ℕ} → r ≡ cond (ltb (first_below n f) n) (Some (first_below n f)) None → unwrap_or r n ≡ first_below n f
 first_or_end n f e = rw e (go (first_found n f) (ltb (first_below n f) n) refl)
