@@ -171,20 +171,20 @@ module _ {A : Type 0} where
   any_enumerate q xs n d h =
       let l : n ≤ length (enumerate_from 0 xs) = omega (arith, length-enumerate_from 0 xs) in
       rw (sym (take_enumerate xs n 0)) (any_chain (λ (e : ℕ × A). q e.0 e.1) (enumerate_from 0 xs) n (0, d) l
-          ∙ any_same n (λ i. q (get_or (enumerate_from 0 xs) i (0, d)).0 (get_or (enumerate_from 0 xs) i (0, d)).1) (λ i. q i (get_or xs i d)) (λ i m. rw (get_or-enumerate_from 0 xs i (0, d) (omega arith), (let z : 0 + i ≡ i = omega arith in z))))
+      ∙ any_same n (λ i. q (get_or (enumerate_from 0 xs) i (0, d)).0 (get_or (enumerate_from 0 xs) i (0, d)).1) (λ i. q i (get_or xs i d)) (λ i m. rw (get_or-enumerate_from 0 xs i (0, d) (omega arith), (let z : 0 + i ≡ i = omega arith in z))))
 
   pub all_enumerate : (q : ℕ → A → Bool) (xs : List A) (n : ℕ) (d : A) → n ≤ length xs → list_all (λ e. q e.0 e.1) (enumerate_from 0 (take n xs)) ≡ all_below n (λ i. q i (get_or xs i d))
   all_enumerate q xs n d h =
       let l : n ≤ length (enumerate_from 0 xs) = omega (arith, length-enumerate_from 0 xs) in
       rw (sym (take_enumerate xs n 0)) (all_chain (λ (e : ℕ × A). q e.0 e.1) (enumerate_from 0 xs) n (0, d) l
-          ∙ all_same n (λ i. q (get_or (enumerate_from 0 xs) i (0, d)).0 (get_or (enumerate_from 0 xs) i (0, d)).1) (λ i. q i (get_or xs i d)) (λ i m. rw (get_or-enumerate_from 0 xs i (0, d) (omega arith), (let z : 0 + i ≡ i = omega arith in z))))
+      ∙ all_same n (λ i. q (get_or (enumerate_from 0 xs) i (0, d)).0 (get_or (enumerate_from 0 xs) i (0, d)).1) (λ i. q i (get_or xs i d)) (λ i m. rw (get_or-enumerate_from 0 xs i (0, d) (omega arith), (let z : 0 + i ≡ i = omega arith in z))))
 
   pub position_enumerate : (q : ℕ → A → Bool) (xs : List A) (n : ℕ) (d : A) → n ≤ length xs
       → position (λ e. q e.0 e.1) (enumerate_from 0 (take n xs)) ≡ cond (ltb (first_below n (λ i. q i (get_or xs i d))) n) (Some (first_below n (λ i. q i (get_or xs i d)))) None
   position_enumerate q xs n d h =
       let l : n ≤ length (enumerate_from 0 xs) = omega (arith, length-enumerate_from 0 xs) in
       let same : first_below n (λ i. q (get_or (enumerate_from 0 xs) i (0, d)).0 (get_or (enumerate_from 0 xs) i (0, d)).1) ≡ first_below n (λ i. q i (get_or xs i d)) =
-          first_same n (λ i. q (get_or (enumerate_from 0 xs) i (0, d)).0 (get_or (enumerate_from 0 xs) i (0, d)).1) (λ i. q i (get_or xs i d)) (λ i m. rw (get_or-enumerate_from 0 xs i (0, d) (omega arith), (let z : 0 + i ≡ i = omega arith in z))) in
+      first_same n (λ i. q (get_or (enumerate_from 0 xs) i (0, d)).0 (get_or (enumerate_from 0 xs) i (0, d)).1) (λ i. q i (get_or xs i d)) (λ i m. rw (get_or-enumerate_from 0 xs i (0, d) (omega arith), (let z : 0 + i ≡ i = omega arith in z))) in
       rw (sym (take_enumerate xs n 0), sym same) (position_chain (λ (e : ℕ × A). q e.0 e.1) (enumerate_from 0 xs) n (0, d) l)
 
 -- the numbers below n themselves
@@ -208,13 +208,13 @@ pub largest_range : (f : ℕ → ℕ) (n : ℕ) → fold (λ a i. max a (f i)) 0
 largest_range f n =
     let e : length (range_with_len 0 n) ≡ n = length-range_with_len 0 n in
     rw (take_whole (range_with_len 0 n) n e) at (largest_chain f (range_with_len 0 n) n 0 (omega arith))
-        ∙ largest_same n (λ i. f (get_or (range_with_len 0 n) i 0)) f (λ i l. rw (range_at n i l))
+    ∙ largest_same n (λ i. f (get_or (range_with_len 0 n) i 0)) f (λ i l. rw (range_at n i l))
 
 pub least_range : (f : ℕ → ℕ) (top n : ℕ) → fold (λ a i. min a (f i)) top (range_with_len 0 n) ≡ least_below top n f
 least_range f top n =
     let e : length (range_with_len 0 n) ≡ n = length-range_with_len 0 n in
     rw (take_whole (range_with_len 0 n) n e) at (least_chain f top (range_with_len 0 n) n 0 (omega arith))
-        ∙ least_same top n (λ i. f (get_or (range_with_len 0 n) i 0)) f (λ i l. rw (range_at n i l))
+    ∙ least_same top n (λ i. f (get_or (range_with_len 0 n) i 0)) f (λ i l. rw (range_at n i l))
 
 -- what a call answered, where its chain gives the first n of xs and its closure computes p
 
