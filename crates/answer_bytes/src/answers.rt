@@ -26,6 +26,16 @@ impl Unanswered {
     }
 }
 
+impl From<Refusal> for Unanswered {
+    ghost use Rattle.answer_bytes.specs.declared.answers.Unanswered.TheVariants.{Refused};
+
+    ghost from_gives = { λ refusal unanswered. unanswered ≡ Refused refusal };
+
+    fn from(refusal: Refusal) -> Unanswered {
+        Unanswered::Refused(refusal)
+    }
+}
+
 // An answer as a number: 0 where there is one, else the number of what stands in its place.
 pub fn answer_number<A>(answer: &Result<A, Unanswered>) -> u8
     ensures { result ≡ answer_number answer.now }
