@@ -1,15 +1,17 @@
 -- The walk over a table of occupied slots finds what the definition says.
 use Prim.Native.Nat.{ℕ, zero, suc, ◌+◌, ◌-◌, ◌%◌, ◌≤◌, ◌<◌}
-use mathlib.Core.Path.{◌≡◌, refl, sym, ◌∙◌}
+use mathlib.Core.Path.{◌≡◌, refl, sym, ap, ◌∙◌}
 use mathlib.Core.Logic.{◌≢◌}
-use mathlib.Core.Bool.{Bool, true, false, cond, ◌||◌}
+use mathlib.Core.Bool.{Bool, true, false, ◌||◌}
 use mathlib.Core.List.{List}
 use native.Mathlib.Nat.{sub-zero, mod-eq_of_lt, mod-lt}
 use native.Mathlib.Numerals.{add-one}
 use native.Mathlib.Decide.{ℕ_discrete}
 use native.Mathlib.Omega.{arith}
 use borrow.Author.Tests.{eq-eqb, ne_eqb}
-use lib.ListN.{length, get_or, set, replicate, length-replicate}
+use lib.ListN.{length, get_or, set, take, replicate, length-replicate, length-take}
+use Rattle.std.proofs.lemmas.List.{get_or-take}
+use Rattle.plan.specs.declared.Slot.{Slot}
 use lib.Seq.{get_or-set_same, get_or-set_other}
 use lib.Dec.{eqb}
 use Rattle.laws.specs.Below.{any_below}
@@ -20,7 +22,7 @@ use Rattle.plan.specs.Sending.{own, sends_below}
 use Rattle.gap.specs.Gap.{slot_before, nearest}
 use Rattle.laws.proofs.Overs.{get_or_over}
 use Rattle.gap.specs.declared.Distances.{Distances}
-use Rattle.gap.specs.Distances.{taken, Free, Occupied, node_distance, no_distance, distances_of}
+use Rattle.gap.specs.Distances.{taken, Free, node_distance, no_distance, distances_of}
 
 -- the slot before: round the frame from slot 0, one less from any other
 
@@ -71,45 +73,49 @@ nearest_same f g C (suc left) s h same =
 
 -- the table
 
--- 1 for a slot that a node below i sends in, else 0
-abbrev pub Marked : Plan → ℕ → List ℕ → Type 0
-Marked P i table = (s : ℕ) → get_or table s 0 ≡ cond (sends_below P i s) 1 0
+-- exactly the slots that a node below i sends in are marked
+abbrev pub Marked : Plan → ℕ → List Bool → Type 0
+Marked P i table = (s : ℕ) → taken table s ≡ sends_below P i s
 
-get_or_zeros : (n s : ℕ) → ◌≡◌ {A = ℕ} (get_or (replicate n 0) s 0) 0
-get_or_zeros zero s = refl
-get_or_zeros (suc n) zero = refl
-get_or_zeros (suc n) (suc s) = get_or_zeros n s
+get_or_off : (n s : ℕ) → taken (replicate n false) s ≡ false
+get_or_off zero s = refl
+get_or_off (suc n) zero = refl
+get_or_off (suc n) (suc s) = get_or_off n s
 
-pub marked_none : (P : Plan) (n : ℕ) → Marked P 0 (replicate n 0)
+pub marked_none : (P : Plan) (n : ℕ) → Marked P 0 (replicate n false)
 unfolding any_below
-marked_none P n s = get_or_zeros n s
+marked_none P n s = get_or_off n s
 
-pub marked_more : (P : Plan) (i : ℕ) (table : List ℕ) → own P i < length table → Marked P i table → Marked P (i + 1) (set table (own P i) 1)
+pub marked_more : (P : Plan) (i : ℕ) (table : List Bool) → own P i < length table → Marked P i table → Marked P (i + 1) (set table (own P i) true)
 unfolding any_below
 marked_more P i table l m s = go (ℕ_discrete s (own P i))
   where
-    go : Dec (s ≡ own P i) → get_or (set table (own P i) 1) s 0 ≡ cond (sends_below P (i + 1) s) 1 0
-    go (yes e) = rw (e, add-one, get_or-set_same table (own P i) 1 0 l, or_true_right (sends_below P i (own P i)) (eqb (own P i) (own P i)) (eq-eqb (own P i) (own P i) refl))
-    go (no n) = get_or-set_other table (own P i) s 1 0 n ∙ m s ∙ rw (add-one, ne_eqb (own P i) s (λ e. n (sym e))) (or_is_false (sends_below P i s))
+    go : Dec (s ≡ own P i) → taken (set table (own P i) true) s ≡ sends_below P (i + 1) s
+    go (yes e) = rw (e, add-one, get_or-set_same table (own P i) true false l, or_true_right (sends_below P i (own P i)) (eqb (own P i) (own P i)) (eq-eqb (own P i) (own P i) refl))
+    go (no n) = get_or-set_other table (own P i) s true false n ∙ m s ∙ rw (add-one, ne_eqb (own P i) s (λ e. n (sym e))) (or_is_false (sends_below P i s))
       where
-        or_is_false : (b : Bool) → ◌≡◌ {A = ℕ} (cond b 1 0) (cond (b || false) 1 0)
+        or_is_false : (b : Bool) → b ≡ (b || false)
         or_is_false true = refl
         or_is_false false = refl
 
-pub taken_sends : (sending : ℕ → Bool) (table : List ℕ) → Occupied sending table → (s : ℕ) → taken table s ≡ sending s
-taken_sends sending table o s = go (sending s) (o.marks s)
-  where
-    go : (b : Bool) → get_or table s 0 ≡ cond b 1 0 → taken table s ≡ b
-    go true e = eq-eqb (get_or table s 0) 1 e
-    go false e = ne_eqb (get_or table s 0) 1 (λ q. omega arith)
-
 -- a row of free slots, and one more slot
-pub free_more : (table : List ℕ) (s n : ℕ) → Free table s n → taken table (s - n) ≡ false → Free table s (n + 1)
+pub free_more : (table : List Bool) (s n : ℕ) → Free table s n → taken table (s - n) ≡ false → Free table s (n + 1)
 free_more table s n row e j h = go (ℕ_discrete j n)
   where
     go : Dec (j ≡ n) → taken table (s - j) ≡ false
     go (yes q) = rw q e
     go (no q) = row j (omega arith)
+
+-- the sending slots of the nodes, as the places of the list of the first N slots
+
+pub record OwnAt (P : Plan) (i : ℕ) (slot : Slot) : Type 0 where
+  pub below : i < P.nodes.0
+  pub is : slot.0 ≡ own P i
+
+pub own_at : (P : Plan) (i : ℕ) → i < length (take P.nodes.0 P.slots) → OwnAt P i (get_or (take P.nodes.0 P.slots) i (record { 0 = 0 }))
+own_at P i h =
+    let l : i < P.nodes.0 = omega (arith, length-take P.nodes.0 P.slots) in
+    record { below = l; is = ap (λ (s : Slot). s.0) (get_or-take P.nodes.0 P.slots i (record { 0 = 0 }) l) }
 
 -- the distances of all nodes
 

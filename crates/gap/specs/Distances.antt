@@ -1,5 +1,5 @@
 -- The predecessor and D of every node's sending slot at once, and the table they are found on.
-use Rattle.std.specs.Prelude.{ℕ, ◌-◌, ◌≤◌, ◌<◌, ◌≡◌, Bool, false, cond, List, length, get_or, replicate, eqb}
+use Rattle.std.specs.Prelude.{ℕ, ◌-◌, ◌≤◌, ◌<◌, ◌≡◌, Bool, false, List, length, get_or, replicate}
 use Rattle.laws.specs.Over.{over}
 use Rattle.plan.specs.declared.Plan.{Plan}
 use Rattle.plan.specs.Sending.{own}
@@ -8,17 +8,17 @@ use Rattle.gap.specs.declared.Distances.{Distances}
 use Rattle.gap.specs.Gap.{predecessor, distance_before}
 
 -- Slot s is marked as occupied in a table.
-abbrev pub taken : List ℕ → ℕ → Bool
-taken table s = eqb (get_or table s 0) 1
+abbrev pub taken : List Bool → ℕ → Bool
+taken table s = get_or table s false
 
 -- Of n slots from s backwards none is marked.
-abbrev pub Free : List ℕ → (s n : ℕ) → Type 0
+abbrev pub Free : List Bool → (s n : ℕ) → Type 0
 Free table s n = (j : ℕ) → j < n → taken table (s - j) ≡ false
 
--- A table that holds 1 for each slot that somebody sends in and 0 for every other.
-pub record Occupied (sending : ℕ → Bool) (table : List ℕ) : Type 0 where
+-- A table in which exactly the slots that somebody sends in are marked.
+pub record Occupied (sending : ℕ → Bool) (table : List Bool) : Type 0 where
   pub long : 4096 ≤ length table
-  pub marks : (s : ℕ) → get_or table s 0 ≡ cond (sending s) 1 0
+  pub marks : (s : ℕ) → taken table s ≡ sending s
 
 -- The predecessor of slot s, and D(s).
 abbrev pub node_distance : Plan → ℕ → NodeDistance

@@ -7,4 +7,4 @@ use Rattle.gap.specs.Distances.{node_distance, no_distance}
 use Rattle.gap.proofs.distances_tested.Given as goal
 
 abbrev pub invariant-loop-i : goal.invariant-loop-i
-invariant-loop-i l = l.distances.nodes ≡ over l.i (λ k x. node_distance l.fn.plan (own l.fn.plan k)) (replicate 32 no_distance)
+invariant-loop-i l = l.nodes ≡ over l.i (λ k x. node_distance l.fn.plan.plan (own l.fn.plan.plan k)) (replicate 32 no_distance)

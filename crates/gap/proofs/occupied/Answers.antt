@@ -1,21 +1,31 @@
-use Rattle.std.proofs.Common.{ℕ, ◌≡◌, ◌∙◌, subst, arith}
+use Rattle.std.proofs.Common.{Bool, ◌≡◌, ◌∙◌, ℕ, false, true, subst, arith, length, rules}
 use Rattle.std.proofs.Math.ListN.{length-set}
-use Rattle.std.proofs.lemmas.List.{length-replicate}
+use Rattle.std.proofs.lemmas.List.{length-replicate, length-take}
 use Rattle.plan.proofs.Sound.{own_in_frame}
 use Rattle.plan.specs.Sending.{sends}
-use Rattle.gap.proofs.Table.{Marked, marked_none, marked_more}
+use Rattle.gap.proofs.Table.{Marked, marked_none, marked_more, own_at}
 use Rattle.gap.proofs.occupied.Goals as goal
 
-pub loop-i-init : goal.loop-i-init
-loop-i-init c = (length-replicate {A = ℕ} 4096 0, marked_none c.args.plan 4096)
+pub loop-own-init : goal.loop-own-init
+loop-own-init c = (length-replicate {A = Bool} 4096 false, marked_none c.args.plan.plan 4096)
 
-pub loop-i-preserved : goal.loop-i-preserved
-loop-i-preserved c =
-    let w = own_in_frame c.args.plan c.requires.0 c.loop-i.i (omega arith) in
-    (length-set c.loop-i.table _ 1 ∙ c.loop-i.invariant.0, marked_more c.args.plan c.loop-i.i c.loop-i.table (omega (arith, w, c.requires.0.frame_high, c.loop-i.invariant.0)) c.loop-i.invariant.1)
+pub loop-own-preserved : goal.loop-own-preserved
+loop-own-preserved c =
+    let P = c.args.plan.plan in
+    let at = own_at P c.loop-own.own-index c.loop-own-test.true in
+    let w = own_in_frame P c.args.plan.sound c.loop-own.own-index at.below in
+    (length-set c.loop-own.table _ true ∙ c.loop-own.invariant.0, rw at.is (marked_more P c.loop-own.own-index c.loop-own.table (omega (arith, w, c.args.plan.sound.frame_high, c.loop-own.invariant.0)) c.loop-own.invariant.1))
+
+pub bounds-table-own : goal.bounds-table-own
+bounds-table-own c =
+    let P = c.args.plan.plan in
+    let at = own_at P c.loop-own.own-index c.loop-own-test.true in
+    omega (arith, at.is, own_in_frame P c.args.plan.sound c.loop-own.own-index at.below, c.args.plan.sound.frame_high)
 
 pub returns : goal.returns
 unfolding sends
 returns c =
-    let e : c.loop-i.i ≡ c.args.plan.nodes.0 = omega arith in
-    record { long = omega (arith, c.loop-i.invariant.0); marks = subst (λ (n : ℕ). Marked c.args.plan n c.loop-i.table) e c.loop-i.invariant.1 }
+    let P = c.args.plan.plan in
+    let long : length P.slots ≡ 32 = search rules in
+    let e : c.loop-own.own-index ≡ P.nodes.0 = omega (arith, length-take P.nodes.0 P.slots, c.args.plan.sound.nodes_high) in
+    record { long = omega (arith, c.loop-own.invariant.0); marks = subst (λ (n : ℕ). Marked P n c.loop-own.table) e c.loop-own.invariant.1 }

@@ -1,7 +1,7 @@
--- After i turns a slot holds 1 where a node below i sends, else 0. Own slots lie in the frame, and so in the table.
+-- After so many turns exactly the slots that a node of the first so many sends in are marked. Own slots lie in the frame, and so in the table.
 use Rattle.std.proofs.Common.{◌≡◌, length}
 use Rattle.gap.proofs.Table.{Marked}
 use Rattle.gap.proofs.occupied.Given as goal
 
-abbrev pub invariant-loop-i : goal.invariant-loop-i
-invariant-loop-i l = (length l.table ≡ 4096) × Marked l.plan l.i l.table
+abbrev pub invariant-loop-own : goal.invariant-loop-own
+invariant-loop-own l = (length l.table ≡ 4096) × Marked l.fn.plan.plan l.own-index l.table
