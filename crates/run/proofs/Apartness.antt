@@ -28,6 +28,7 @@ pub record Lowest (N : ℕ) (f : ℕ → Bool) (i : ℕ) : Type 0 where
   pub first : first_below N f ≡ i
 
 pub lowest_some : (N : ℕ) (f : ℕ → Bool) (i : Node) → lowest N f ≡ Some i → Lowest N f i.0
+unfolding lowest
 lowest_some N f i e = go (first_found N f) (ltb (first_below N f) N) refl refl e
   where
     go : {k : ℕ} → Found N f k → (b : Bool) → ltb k N ≡ b → first_below N f ≡ k → cond b (Some (record { 0 = k })) None ≡ Some i → Lowest N f i.0
@@ -35,7 +36,11 @@ lowest_some N f i e = go (first_found N f) (ltb (first_below N f) N) refl refl e
     go {k} (none a b) true l z q = absurd (omega (arith, ltb-true k N l))
     go w false l z q = cc
 
+pub lowest_below : (N : ℕ) (f : ℕ → Bool) (i : Node) → lowest N f ≡ Some i → i.0 < N
+lowest_below N f i e = (lowest_some N f i e).below
+
 pub lowest_none : (N : ℕ) (f : ℕ → Bool) → lowest N f ≡ None → (k : ℕ) → k < N → f k ≡ false
+unfolding lowest
 lowest_none N f e = go (first_found N f) (ltb (first_below N f) N) refl e
   where
     go : {k : ℕ} → Found N f k → (b : Bool) → ltb k N ≡ b → ◌≡◌ {A = Option Node} (cond b (Some (record { 0 = k })) None) None → (j : ℕ) → j < N → f j ≡ false

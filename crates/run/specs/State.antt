@@ -57,7 +57,7 @@ abbrev pub range_refusal : Plan → Run → Option Refusal
 range_refusal P r = cond (in_range P r) None (Some RunOutside)
 
 -- The lowest of the nodes below N that passes; none where none of them does.
-abbrev pub lowest : (N : ℕ) → (ℕ → Bool) → Option Node
+unfoldable pub lowest : (N : ℕ) → (ℕ → Bool) → Option Node
 lowest N f = cond (ltb (first_below N f) N) (Some (record { 0 = first_below N f })) None
 
 -- Node j has another slot number than node i.
