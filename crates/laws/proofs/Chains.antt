@@ -1,8 +1,8 @@
 -- What the library's chains over a list compute, as questions about the numbers below n: the first n places of xs, and each number with its place.
 use Prim.Native.Nat.{ℕ, zero, suc, ◌+◌, ◌≤◌, ◌<◌, min, max}
-use mathlib.Core.Path.{◌≡◌, refl, sym, ◌∙◌}
+use mathlib.Core.Path.{◌≡◌, refl, sym, ap, ◌∙◌}
 use mathlib.Core.Bool.{Bool, true, false, cond, not}
-use mathlib.Core.List.{List, [], ◌∷◌}
+use mathlib.Core.List.{List, [], ◌∷◌, map}
 use native.Mathlib.Nat.{not-suc-le-zero, le_of_suc-le-suc}
 use native.Mathlib.Numerals.{add-one}
 use native.Mathlib.Omega.{arith}
@@ -10,8 +10,8 @@ use lib.Dec.{ltb}
 use lib.ListN.{length, take, get_or, length-take}
 use Rattle.std.specs.declared.option.Option.{Option}
 use Rattle.std.specs.declared.option.Option.TheVariants.{None, Some}
-use Rattle.std.specs.List.{list_any, list_all, position_or_len, position, enumerate_from, range_with_len, fold}
-use Rattle.std.proofs.lemmas.List.Folds.{list_any_more, list_all_more}
+use Rattle.std.specs.List.{list_any, list_all, position_or_len, position, enumerate_from, range_with_len, fold, reduce}
+use Rattle.std.proofs.lemmas.List.Folds.{list_any_more, list_all_more, fold-map}
 use Rattle.std.proofs.lemmas.List.Sums.{fold_more}
 use Rattle.std.proofs.lemmas.List.FromFn.{length-enumerate_from, get_or-enumerate_from, length-range_with_len, get_or-range_with_len}
 use Rattle.std.specs.Iterator.{YieldsThen}
@@ -146,6 +146,18 @@ module _ {A : Type 0} where
   unfolding least_below
   least_chain f top xs zero d h = refl
   least_chain f top xs (suc n) d h = rw (sym (least_chain f top xs n d (omega arith))) (rw add-one at (fold_more (λ a x. min a (f x)) top xs n d (omega arith)))
+
+-- the one answer of `max`, or else 0
+
+fold_from : (xs : List ℕ) (x : ℕ) → fold max x xs ≡ fold max 0 (x ∷ xs)
+fold_from xs x = let z : x ≡ max 0 x = omega arith in ap (λ a. fold max a xs) z
+
+reduce_max : (xs : List ℕ) → unwrap_or (reduce max xs) 0 ≡ fold max 0 xs
+reduce_max [] = refl
+reduce_max (x ∷ xs) = fold_from xs x
+
+pub largest_max : {A : Type 0} (f : A → ℕ) (xs : List A) (n : ℕ) (d : A) → n ≤ length xs → unwrap_or (reduce max (map f (take n xs))) 0 ≡ largest_below n (λ i. f (get_or xs i d))
+largest_max f xs n d h = reduce_max (map f (take n xs)) ∙ fold-map max f 0 (take n xs) ∙ largest_chain f xs n d h
 
 module _ {A : Type 0} where
   -- each element beside its place

@@ -1,11 +1,11 @@
 -- Laws of a list whose first n places are changed.
 use Prim.Native.Nat.{ℕ, zero, suc, ◌+◌, ◌≤◌, ◌<◌}
 use mathlib.Core.Path.{◌≡◌, refl, ap}
-use mathlib.Core.List.{List, [], ◌∷◌}
+use mathlib.Core.List.{List, [], ◌∷◌, ◌++◌}
 use native.Mathlib.Nat.{not-suc-le-zero, le_of_suc-le-suc}
 use native.Mathlib.Numerals.{add-one}
 use native.Mathlib.Omega.{arith}
-use lib.ListN.{length, get_or, set}
+use lib.ListN.{length, get_or, set, take, drop}
 use Rattle.laws.specs.Over.{over}
 
 module _ {A : Type 0} where
@@ -47,3 +47,14 @@ module _ {A : Type 0} where
   over_more n f xs ys d q l e p =
       let at : get_or ys n d ≡ get_or xs n d = rw e (get_or_past n f xs n d (omega arith)) in
       rw (add-one, p, at, e) (set_over n f xs d l)
+
+  -- the first n places changed alone, with the rest put behind them
+  pub over_front : (n : ℕ) (f : ℕ → A → A) (xs : List A) → over n f (take n xs) ++ drop n xs ≡ over n f xs
+  unfolding over
+  over_front zero f xs = refl
+  over_front (suc n) f [] = refl
+  over_front (suc n) f (x ∷ xs) = ap (λ (ys : List A). f 0 x ∷ ys) (over_front n (λ k. f (suc k)) xs)
+
+  -- a loop over the first n places, at its end
+  pub over_end : (n k : ℕ) (f : ℕ → A → A) (xs ys : List A) → k ≡ n → ys ≡ over k f (take n xs) → ys ++ drop n xs ≡ over n f xs
+  over_end n k f xs ys e q = rw (q, e) (over_front n f xs)
