@@ -4,7 +4,7 @@
 mod showing;
 
 ghost use Rattle.std.specs.Prelude.{◌≡◌};
-ghost use Rattle.shown.specs.Shown.{fresh_place};
+ghost use Rattle.shown.specs.Shown.{fresh_place, place_of};
 
 use plan::{Node, Slot};
 use run::{Run, Step, fresh};
@@ -48,5 +48,17 @@ pub fn fresh_place() -> Place
     Place {
         run: fresh(),
         mark: Mark::Before,
+    }
+}
+
+// The place alone, without the plan and the parts.
+impl From<Showing> for Place {
+    ghost from_gives = { λ showing place. place ≡ place_of showing };
+
+    fn from(showing: Showing) -> Place {
+        Place {
+            run: showing.run.run,
+            mark: showing.mark,
+        }
     }
 }
