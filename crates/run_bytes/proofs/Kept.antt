@@ -13,7 +13,7 @@ use Rattle.laws.specs.Below.{any_below}
 use Rattle.laws.proofs.Belows.{any_not}
 use Rattle.laws.specs.Bytes.{byte_at}
 use Rattle.plan_file.specs.File.{be16_of, be32_of}
-use Rattle.std.specs.Prelude.{Option, None, Some}
+use Rattle.std.specs.Prelude.{None, Some}
 use Rattle.run.specs.declared.Run.{Run}
 use Rattle.run.specs.State.{node}
 use Rattle.run_bytes.specs.RunBytes.{mode_byte, mode_in, flag_byte, node_bytes, last_bytes, node_in, last_in, run_in, nodes_bytes, run_bytes, node_wrong, spells_no_run}

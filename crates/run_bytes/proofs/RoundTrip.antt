@@ -16,7 +16,7 @@ use Rattle.plan.specs.declared.Slot.{Slot}
 use Rattle.std.specs.Prelude.{Option, None, Some}
 use Rattle.run.specs.declared.NodeState.{NodeState}
 use Rattle.run.specs.declared.Run.{Run}
-use Rattle.run.specs.State.{fresh_node, node}
+use Rattle.run.specs.State.{fresh_node, fresh_run, node}
 use Rattle.laws.proofs.Overs.{get_or_over, get_or_past, length_over}
 use Rattle.run_bytes.specs.RunBytes.{mode_byte, mode_in, flag_byte, node_bytes, last_bytes, node_in, last_in, run_in, nodes_bytes, run_bytes}
 use Rattle.run_bytes.proofs.Sets.{get_or_sets_before, get_or_sets_in}
@@ -37,6 +37,10 @@ pub record Holdable (N : ℕ) (r : Run) : Type 0 where
   pub nodes_fit : (i : ℕ) → i < N → NodeFits (node r i)
   pub rest_fresh : (i : ℕ) → N ≤ i → i < 32 → node r i ≡ fresh_node
   pub last_fits : LastFits r.last
+
+pub fresh_places : length fresh_run.nodes ≡ 32
+unfolding fresh_run
+fresh_places = length-replicate 32 fresh_node
 
 mode_back : (m : Mode) → mode_in (mode_byte m) ≡ m
 unfolding mode_in

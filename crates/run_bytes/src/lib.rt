@@ -10,12 +10,12 @@ use plan::{Slot, Tick, Time};
 use plan_file::{be16, be32};
 use run::{Mode, NodeState, Run, fresh};
 
-// Bytes from a place on.
-pub fn put<const N: usize>(bytes: &mut [u8], at: usize, form: [u8; N])
-    requires { at + N ≤ length bytes.old }
-    ensures { bytes.new ≡ sets bytes.old at form }
+// A form of any length put from a place on.
+pub fn put(bytes: &mut [u8], at: usize, form: &[u8])
+    requires { at + length form.now ≤ length bytes.old }
+    ensures { bytes.new ≡ sets bytes.old at form.now }
 {
-    bytes[at..at + N].copy_from_slice(&form);
+    bytes[at..at + form.len()].copy_from_slice(form);
 }
 
 fn mode_byte(mode: Mode) -> u8
@@ -69,22 +69,28 @@ pub fn read_run(bytes: &[u8], nodes: usize) -> Run
     requires { (nodes ≤ 32) × (291 ≤ length bytes.now) }
     ensures { result ≡ run_in nodes bytes.now }
 {
-    let mut run = fresh();
-    for (k, node) in run.nodes[..nodes].iter_mut().enumerate() {
+    let mut places = fresh().nodes;
+    for (k, node) in places[..nodes].iter_mut().enumerate() {
         *node = node_in(bytes, 9 * k);
     }
-    run.last = last_in(bytes);
-    run
+    Run {
+        nodes: places,
+        last: last_in(bytes),
+    }
 }
 
 fn write_node(bytes: &mut [u8], at: usize, node: NodeState)
     requires { at + 9 ≤ length bytes.old }
     ensures { bytes.new ≡ sets bytes.old at (node_bytes node) }
 {
-    put(bytes, at, [node.clock.0]);
-    put(bytes, at + 1, node.slot.0.to_be_bytes());
-    put(bytes, at + 3, node.time.0.to_be_bytes());
-    put(bytes, at + 7, [mode_byte(node.mode), u8::from(node.pending)]);
+    put(bytes, at, &[node.clock.0]);
+    put(bytes, at + 1, &node.slot.0.to_be_bytes());
+    put(bytes, at + 3, &node.time.0.to_be_bytes());
+    put(
+        bytes,
+        at + 7,
+        &[mode_byte(node.mode), u8::from(node.pending)],
+    );
 }
 
 fn write_last(bytes: &mut [u8], last: Option<Slot>)
@@ -93,10 +99,10 @@ fn write_last(bytes: &mut [u8], last: Option<Slot>)
 {
     match last {
         Some(slot) => {
-            put(bytes, 288, [1]);
-            put(bytes, 289, slot.0.to_be_bytes());
+            put(bytes, 288, &[1]);
+            put(bytes, 289, &slot.0.to_be_bytes());
         }
-        None => put(bytes, 288, [0, 0, 0]),
+        None => put(bytes, 288, &[0, 0, 0]),
     }
 }
 
