@@ -11,8 +11,8 @@ use Rattle.plan.specs.declared.Plan.{Plan}
 use Rattle.plan.specs.Tested.{Sound}
 use Rattle.gap.specs.Gap.{gap_of}
 use Rattle.rules.specs.declared.Rule.TheVariants.{One, Two, Three}
-use Rattle.rules.specs.declared.Outcome.TheVariants.{Accepted, Fails}
-use Rattle.rules.specs.Rules.{sides_at, holds, outcome_by, verdict_at, verdict_of}
+use Rattle.std.specs.Prelude.{None, Some}
+use Rattle.rules.specs.Rules.{sides_at, holds, failed_by, verdict_at, verdict_of}
 
 -- The rules as sums, e ticks away (d·k0 at the distance d) and for the offset o. z is what rule 2 takes away besides g.
 abbrev pub Rule1 : (e o g min max : ℕ) → Type 0
@@ -82,15 +82,15 @@ record AllHold (one two three : Bool) : Type 0 where
   pub second : two ≡ true
   pub third : three ≡ true
 
-all_hold : (one two three : Bool) → cond one (cond two (cond three Accepted (Fails Three)) (Fails Two)) (Fails One) ≡ Accepted → AllHold one two three
+all_hold : (one two three : Bool) → cond one (cond two (cond three None (Some Three)) (Some Two)) (Some One) ≡ None → AllHold one two three
 all_hold true true true h = record { first = refl; second = refl; third = refl }
 all_hold true true false h = absurd (let z : ◌≡◌ {A = ℕ} 0 1 = cc in omega arith)
 all_hold true false three h = absurd (let z : ◌≡◌ {A = ℕ} 0 1 = cc in omega arith)
 all_hold false two three h = absurd (let z : ◌≡◌ {A = ℕ} 0 1 = cc in omega arith)
 
 module _ (P : Plan) (s : Sound P) where
-  pub rules_hold : (verdict_of P).outcome ≡ Accepted → RulesHold P
-  unfolding verdict_of verdict_at outcome_by sides_at
+  pub rules_hold : (verdict_of P).failed ≡ None → RulesHold P
+  unfolding verdict_of verdict_at failed_by sides_at
   rules_hold h =
       let M = gap_of P in
       let k = P.ticks.0 in
@@ -109,8 +109,8 @@ module _ (P : Plan) (s : Sound P) where
       }
 
   -- every plan with g = 1 fails rule 1
-  pub guard_1_fails : P.guard.0 ≡ 1 → (verdict_of P).outcome ≡ Fails One
-  unfolding verdict_of verdict_at outcome_by sides_at
+  pub guard_1_fails : P.guard.0 ≡ 1 → (verdict_of P).failed ≡ Some One
+  unfolding verdict_of verdict_at failed_by sides_at
   guard_1_fails e =
       let M = gap_of P in
       let k = P.ticks.0 in

@@ -9,16 +9,16 @@ use Rattle.laws.proofs.Products.{sub_mul}
 use Rattle.rules.specs.declared.Rule.{Rule}
 use Rattle.rules.specs.declared.Rule.TheVariants.{One, Two, Three}
 use Rattle.rules.specs.declared.Sides.{Sides}
-use Rattle.rules.specs.declared.Outcome.TheVariants.{Accepted, Fails}
-use Rattle.rules.specs.Rules.{holds, outcome_by}
+use Rattle.std.specs.Prelude.{None, Some}
+use Rattle.rules.specs.Rules.{holds, failed_by}
 
 -- the rule that the verdict names does not hold
-pub named : (s : Rule → Sides) (rule : Rule) → outcome_by (s One) (s Two) (s Three) ≡ Fails rule → (s rule).right ≤ (s rule).left
-unfolding outcome_by
+pub named : (s : Rule → Sides) (rule : Rule) → failed_by (s One) (s Two) (s Three) ≡ Some rule → (s rule).right ≤ (s rule).left
+unfolding failed_by
 named s rule h = ltb-false (s rule).left (s rule).right (go (holds (s One)) refl (holds (s Two)) refl (holds (s Three)) refl h)
   where
     go : (a : Bool) → holds (s One) ≡ a → (b : Bool) → holds (s Two) ≡ b → (c : Bool) → holds (s Three) ≡ c
-        → cond a (cond b (cond c Accepted (Fails Three)) (Fails Two)) (Fails One) ≡ Fails rule → holds (s rule) ≡ false
+        → cond a (cond b (cond c None (Some Three)) (Some Two)) (Some One) ≡ Some rule → holds (s rule) ≡ false
     go false e b x c y h = let z : One ≡ rule = cc in rw z at e
     go true e false x c y h = let z : Two ≡ rule = cc in rw z at x
     go true e true x false y h = let z : Three ≡ rule = cc in rw z at y

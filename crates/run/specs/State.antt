@@ -2,6 +2,7 @@
 use Rattle.std.specs.Prelude.{ℕ, Bool, true, false, cond, not, ◌&&◌, Option, None, Some, get_or, replicate, eqb, leb, ltb}
 use Rattle.laws.specs.Below.{any_below, all_below, first_below}
 use Rattle.plan.specs.declared.Plan.{Plan}
+use Rattle.plan.specs.declared.Node.{Node}
 use Rattle.plan.specs.declared.Slot.{Slot}
 use Rattle.plan.specs.declared.refusal.Refusal.{Refusal}
 use Rattle.plan.specs.declared.refusal.Refusal.TheVariants.{RunOutside}
@@ -54,6 +55,10 @@ in_range P r = all_below P.nodes.0 (λ i. node_in_range P (node r i)) && last_in
 -- What test 10 says of a run.
 abbrev pub range_refusal : Plan → Run → Option Refusal
 range_refusal P r = cond (in_range P r) None (Some RunOutside)
+
+-- The lowest of the nodes below N that passes; none where none of them does.
+unfoldable pub lowest : (N : ℕ) → (ℕ → Bool) → Option Node
+lowest N f = cond (ltb (first_below N f) N) (Some (record { 0 = first_below N f })) None
 
 -- Node j has another slot number than node i.
 abbrev pub elsewhere : Run → (i j : ℕ) → Bool

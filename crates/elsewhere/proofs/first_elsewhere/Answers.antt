@@ -1,11 +1,18 @@
-use Rattle.std.proofs.Common.{sym, ap, not, arith}
-use borrow.Author.Tests.{ne_eqb}
-use Rattle.laws.proofs.Belows.{first_at}
-use Rattle.run.specs.State.{node, elsewhere}
+use Rattle.std.proofs.Common.{rules, tests, not, eqb}
+use Rattle.std.proofs.lemmas.Iterator.{YieldsList-from_slice}
+use Rattle.laws.proofs.Chains.{position_in}
+use Rattle.run.specs.declared.NodeState.{NodeState}
+use Rattle.run.specs.State.{lowest, node, fresh_node}
 use Rattle.elsewhere.proofs.first_elsewhere.Goals as goal
 
-pub returns-then-node-sender : goal.returns-then-node-sender
-returns-then-node-sender c =
-    let r = c.args.run in
-    let j = c.loop-j.j in
-    sym (first_at c.args.plan.nodes.0 j (elsewhere r c.args.i.0) (omega arith) c.loop-j.invariant (ap not (ne_eqb (node r j).slot.0 (node r c.args.i.0).slot.0 c.if-node-sender.true)))
+pub returns-in_err-j : goal.returns-in_err-j
+unfolding lowest
+returns-in_err-j c =
+    let found = position_in (λ (a : NodeState). not (eqb a.slot.0 (node c.args.run c.args.i.0).slot.0)) c.args.run.nodes c.args.plan.plan.nodes.0 fresh_node _ _ (search rules) c.position.ensures.ran (YieldsList-from_slice _ cc) (λ x b q k. search (rules, tests)) in
+    search (rules, found)
+
+pub returns : goal.returns
+unfolding lowest
+returns c =
+    let found = position_in (λ (a : NodeState). not (eqb a.slot.0 (node c.args.run c.args.i.0).slot.0)) c.args.run.nodes c.args.plan.plan.nodes.0 fresh_node _ _ (search rules) c.position.ensures.ran (YieldsList-from_slice _ cc) (λ x b q k. search (rules, tests)) in
+    search (rules, found)

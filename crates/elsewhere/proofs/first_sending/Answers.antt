@@ -1,9 +1,18 @@
-use Rattle.std.proofs.Common.{◌≡◌, true, sym, arith}
-use Rattle.laws.proofs.Belows.{first_at}
-use Rattle.run.specs.State.{node, is_sending}
+use Rattle.std.proofs.Common.{rules}
+use Rattle.std.proofs.lemmas.Iterator.{YieldsList-from_slice}
+use Rattle.laws.proofs.Chains.{position_in}
+use Rattle.run.specs.declared.NodeState.{NodeState}
+use Rattle.run.specs.State.{lowest, fresh_node, is_sending}
 use Rattle.elsewhere.proofs.first_sending.Goals as goal
 
-pub returns-then-is_sending : goal.returns-then-is_sending
-returns-then-is_sending c =
-    let sends : is_sending (node c.args.run c.loop-i.i).mode ≡ true = cc in
-    sym (first_at c.args.plan.nodes.0 c.loop-i.i (λ k. is_sending (node c.args.run k).mode) (omega arith) c.loop-i.invariant sends)
+pub returns-in_err-i : goal.returns-in_err-i
+unfolding lowest
+returns-in_err-i c =
+    let found = position_in (λ (a : NodeState). is_sending a.mode) c.args.run.nodes c.args.plan.plan.nodes.0 fresh_node _ _ (search rules) c.position.ensures.ran (YieldsList-from_slice _ cc) (λ x b q k. search rules) in
+    search (rules, found)
+
+pub returns : goal.returns
+unfolding lowest
+returns c =
+    let found = position_in (λ (a : NodeState). is_sending a.mode) c.args.run.nodes c.args.plan.plan.nodes.0 fresh_node _ _ (search rules) c.position.ensures.ran (YieldsList-from_slice _ cc) (λ x b q k. search rules) in
+    search (rules, found)

@@ -10,4 +10,4 @@ overflow_mul-result c = fits_product 4096 255 (omega arith) (search rules) tt
 pub returns : goal.returns
 returns c =
     let k : c.args.plan.ticks.0 ≤ 255 = search rules in
-    (refl, omega (arith, mul-le-mul_right c.args.plan.ticks.0 c.requires.1), mul-le-mul c.requires.0 k)
+    rw (c.from.ensures, c.from-2.ensures) (refl, omega (arith, mul-le-mul_right c.args.plan.ticks.0 c.requires.1), mul-le-mul c.requires.0 k)
