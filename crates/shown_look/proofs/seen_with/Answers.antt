@@ -27,13 +27,13 @@ returns c q m s e =
     let due : eqb c.args.state.time.0 c.due_time.result.0 ≡ is_due P parts q i.0 = rw (s, m, c.due_time.ensures) in
     let first : c.if-due.first ≡ (is_due P parts q i.0 && goes_first P parts q.run q.mark i.0) =
     elim c.if-due.branch [
-      then-due w ↦ asked _ _ _ _ due (eq-eqb _ _ w.if-due.true) (w.first-is ∙ rw m (w.goes_first-first.ensures q.run s))
-    | else-due w ↦ not_asked _ _ _ _ due (ne_eqb _ _ w.if-due.false) w.first-is
+      | then-due w ↦ asked _ _ _ _ due (eq-eqb _ _ w.if-due.true) (w.first-is ∙ rw m (w.goes_first-first.ensures q.run s))
+      | else-due w ↦ not_asked _ _ _ _ due (ne_eqb _ _ w.if-due.false) w.first-is
     ] in
     let second : c.if-due-2.second ≡ (is_due P parts q i.0 && goes_second parts q.mark i.0) =
     elim c.if-due-2.branch [
-      then-due-2 w ↦ asked _ _ _ _ due (eq-eqb _ _ w.if-due-2.true) (w.second-is ∙ rw m w.goes_second-second.ensures)
-    | else-due-2 w ↦ not_asked _ _ _ _ due (ne_eqb _ _ w.if-due-2.false) w.second-is
+      | then-due-2 w ↦ asked _ _ _ _ due (eq-eqb _ _ w.if-due-2.true) (w.second-is ∙ rw m w.goes_second-second.ensures)
+      | else-due-2 w ↦ not_asked _ _ _ _ due (ne_eqb _ _ w.if-due-2.false) w.second-is
     ] in
     let sends : c.is_sending-sending.result ≡ is_sending (node q.run i.0).mode = rw s c.is_sending-sending.ensures in
     λ j. record {
