@@ -1,19 +1,23 @@
--- What refusals 20 to 22 let through: files long enough for what is read of them.
+-- What refusals 20 to 22 let through, files long enough for what is read of them; and which of 20 to 22 and 1 to 9 speaks first.
 use Prim.Native.Nat.{ℕ, ◌+◌, ◌*◌, ◌≤◌}
-use mathlib.Core.Path.{◌≡◌, refl}
-use mathlib.Core.Bool.{Bool, true, false, not, ◌||◌}
-use mathlib.Core.List.{List}
-use borrow.Author.Tests.{ltb-false, eqb-true}
+use mathlib.Core.Path.{◌≡◌, sym, ap, ◌∙◌}
+use mathlib.Core.Bool.{true, false, not, ◌||◌}
+use mathlib.Core.List.{List, []}
+use borrow.Author.Tests.{ltb-false, eqb-true, eq-eqb, ne_eqb}
 use lib.ListN.{length}
 use lib.Dec.{eqb, ltb}
 use Rattle.laws.proofs.Bools.{or_false_left, or_false_right, false_not_true}
-use Rattle.laws.proofs.Rows.{all_off}
-use native.Mathlib.Omega.{arith}
-use Rattle.plan.specs.Tested.{plan_number}
-use Rattle.plan_file.specs.declared.Read.{Read}
-use Rattle.plan_file.specs.declared.Read.TheVariants.{Taken}
+use Rattle.laws.specs.Row.{given}
+use Rattle.laws.proofs.Rows.{all_off, off_all, first_here, first_next}
+use Rattle.std.specs.Prelude.{Option, None, Some, Err}
+use Rattle.std.proofs.lemmas.Option.{none-some}
+use Rattle.std.specs.Result.{result_err}
+use Rattle.std.specs.Option.{option_or}
+use Rattle.plan.specs.declared.refusal.Refusal.{Refusal}
+use Rattle.plan.specs.declared.refusal.Refusal.TheVariants.{NotAPlanFile, VersionUnknown, LengthWrong}
+use Rattle.plan.specs.Tested.{plan_refusal}
 use Rattle.laws.specs.Bytes.{byte_at}
-use Rattle.plan_file.specs.File.{mark_wrong, is_length_wrong, file_rows, file_number, plan_of, taken_of, read_of}
+use Rattle.plan_file.specs.File.{be16_of, mark_wrong, is_length_wrong, file_rows, file_refusal, plan_of, no_plan, read_by, read_of}
 
 pub mark_long : (file : List ℕ) → mark_wrong file ≡ false → 5 ≤ length file
 unfolding mark_wrong
@@ -28,10 +32,10 @@ pub record Whole (file : List ℕ) : Type 0 where
   pub head : 21 ≤ length file
   pub exact : length file ≡ 21 + 2 * byte_at file 5
 
-pub whole : (file : List ℕ) → file_number file ≡ 0 → Whole file
-unfolding file_number is_length_wrong
+pub whole : (file : List ℕ) → file_refusal file ≡ None → Whole file
+unfolding file_refusal is_length_wrong
 whole file e =
-    let o = all_off (file_rows file) (tt, (tt, (tt, tt))) e in
+    let o = all_off (file_rows file) e in
     let short = ltb (length file) 21 in
     let same = eqb (length file) (21 + 2 * byte_at file 5) in
     record {
@@ -39,12 +43,46 @@ whole file e =
       exact = eqb-true (length file) (21 + 2 * byte_at file 5) (false_not_true same (or_false_right short (not same) o.1.1.0));
     }
 
--- a plan that the reader takes passed 1 to 9
-pub taken_passes : (file : List ℕ) → (read_of file).answer ≡ Taken → plan_number (read_of file).plan ≡ 0
-unfolding read_of taken_of
-taken_passes file h = go (eqb (file_number file) 0) refl (eqb (plan_number (plan_of file)) 0) refl
+-- 20, 21, 22 in turn: where a test holds its row gives the refusal, where it doesn't the rows after it decide
+
+pub speaks_20 : (file : List ℕ) → mark_wrong file ≡ true → Some NotAPlanFile ≡ file_refusal file
+unfolding file_refusal
+speaks_20 file m = sym (first_here (given NotAPlanFile (mark_wrong file)) _ m)
+
+pub speaks_21 : (file : List ℕ) → mark_wrong file ≡ false → (be16_of file 3 ≡ 1 → ⊥) → Some VersionUnknown ≡ file_refusal file
+unfolding file_refusal
+speaks_21 file m v = sym (first_next (given NotAPlanFile (mark_wrong file)) _ m ∙ first_here (given VersionUnknown (not (eqb (be16_of file 3) 1))) _ (ap not (ne_eqb _ 1 v)))
+
+pub speaks_22 : (file : List ℕ) → mark_wrong file ≡ false → be16_of file 3 ≡ 1 → is_length_wrong file ≡ true → Some LengthWrong ≡ file_refusal file
+unfolding file_refusal
+speaks_22 file m v l = sym (first_next (given NotAPlanFile (mark_wrong file)) _ m ∙ first_next (given VersionUnknown (not (eqb (be16_of file 3) 1))) _ (ap not (eq-eqb _ 1 v)) ∙ first_here (given LengthWrong (is_length_wrong file)) [] l)
+
+pub none_speaks : (file : List ℕ) → mark_wrong file ≡ false → be16_of file 3 ≡ 1 → is_length_wrong file ≡ false → None ≡ file_refusal file
+unfolding file_refusal
+none_speaks file m v l = sym (off_all (file_rows file) (m, (ap not (eq-eqb _ 1 v), (l, tt))))
+
+-- what the reader answers, by the first of both that speaks
+
+pub refused_by_file : (file : List ℕ) (r : Refusal) → Some r ≡ file_refusal file → Some r ≡ result_err (read_of file).answer
+unfolding read_of
+refused_by_file file r e = rw (← e)
+
+pub refused_by_plan : (file : List ℕ) (x : Option Refusal) → None ≡ file_refusal file → x ≡ plan_refusal (plan_of file) → x ≡ result_err (read_of file).answer
+unfolding read_of
+refused_by_plan file x f p = go (plan_refusal (plan_of file)) p
   where
-    go : (a : Bool) → eqb (file_number file) 0 ≡ a → (b : Bool) → eqb (plan_number (plan_of file)) 0 ≡ b → plan_number (read_of file).plan ≡ 0
-    go true p true q = rw (p, q) (eqb-true (plan_number (plan_of file)) 0 q)
-    go true p false q = let z : Read.Refused (plan_number (plan_of file)) ≡ Taken = rw (p, q) at h in absurd (let y : ◌≡◌ {A = ℕ} 0 1 = cc in omega arith)
-    go false p b q = let z : Read.Refused (file_number file) ≡ Taken = rw p at h in absurd (let y : ◌≡◌ {A = ℕ} 0 1 = cc in omega arith)
+    go : (y : Option Refusal) → x ≡ y → x ≡ result_err (read_by (option_or (file_refusal file) y) (plan_of file)).answer
+    go (Some r) e = rw (← f) e
+    go None e = rw (← f) e
+
+pub plan_taken : (file : List ℕ) → None ≡ file_refusal file → None ≡ plan_refusal (plan_of file) → plan_of file ≡ (read_of file).plan
+unfolding read_of
+plan_taken file f p = rw (← f, ← p)
+
+pub refused_read : (file : List ℕ) (r : Refusal) → Some r ≡ result_err (read_of file).answer → record { answer = Err r; plan = no_plan } ≡ read_of file
+unfolding read_of
+refused_read file r e = go (option_or (file_refusal file) (plan_refusal (plan_of file))) e
+  where
+    go : (x : Option Refusal) → Some r ≡ result_err (read_by x (plan_of file)).answer → record { answer = Err r; plan = no_plan } ≡ read_by x (plan_of file)
+    go (Some q) h = let same : r ≡ q = cc in rw same
+    go None h = absurd (none-some r (sym h))

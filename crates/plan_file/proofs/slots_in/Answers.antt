@@ -2,19 +2,16 @@ use Rattle.std.proofs.Common.{◌≡◌, ℕ, ap, ◌∙◌, length, replicate, 
 use Rattle.std.proofs.lemmas.List.{length-replicate}
 use Rattle.plan.specs.declared.Slot.{Slot}
 use Rattle.plan_file.specs.File.{slot_at, slots_of}
-use Rattle.laws.proofs.Overs.{over_none, over_more}
+use Rattle.laws.proofs.Overs.{over_more}
 use Rattle.laws.specs.Over.{over}
 use Rattle.plan_file.proofs.slots_in.Goals as goal
-
-pub loop-place-init : goal.loop-place-init
-loop-place-init c = over_none _ _
 
 pub loop-place-preserved : goal.loop-place-preserved
 loop-place-preserved c =
     let l = c.loop-place in
     let zero : Slot = record { 0 = 0 } in
     let long : length (replicate 32 zero) ≡ 32 = length-replicate 32 zero in
-    over_more l.place _ (replicate 32 zero) l.slots zero c.slot_at-slot.result (omega arith) l.invariant (λ j. record { 0 = c.slot_at-slot.ensures j })
+    over_more l.place _ (replicate 32 zero) l.slot-items zero c.slot_at.result (omega arith) l.invariant (λ j. record { 0 = c.slot_at.ensures j })
 
 pub returns : goal.returns
 unfolding slots_of
