@@ -1,13 +1,13 @@
 -- The format of a plan file, over the list of its bytes, and what the reader answers.
-use Rattle.std.specs.Prelude.{ℕ, ◌+◌, ◌*◌, Bool, cond, not, ◌||◌, List, [], ◌∷◌, length, replicate, eqb, ltb}
+use Rattle.std.specs.Prelude.{ℕ, ◌+◌, ◌*◌, Bool, cond, not, ◌||◌, List, [], ◌∷◌, length, replicate, Option, None, Some, Ok, Err, eqb, ltb}
 use Rattle.laws.specs.Bytes.{byte_at}
 use Rattle.laws.specs.Row.{Row, given, first_given}
 use Rattle.laws.specs.Over.{over}
 use Rattle.plan.specs.declared.Plan.{Plan}
 use Rattle.plan.specs.declared.Slot.{Slot}
-use Rattle.plan.specs.Refusals.{not_a_plan_file, version_unknown, length_wrong}
-use Rattle.plan.specs.Tested.{plan_number}
-use Rattle.plan_file.specs.declared.Read.TheVariants.{Taken, Refused}
+use Rattle.plan.specs.declared.refusal.Refusal.{Refusal}
+use Rattle.plan.specs.declared.refusal.Refusal.TheVariants.{NotAPlanFile, VersionUnknown, LengthWrong}
+use Rattle.plan.specs.Tested.{plan_refusal}
 use Rattle.plan_file.specs.declared.PlanRead.{PlanRead}
 
 -- Numbers of 16 and 32 bits, big-endian.
@@ -35,16 +35,16 @@ unfoldable pub is_length_wrong : List ℕ → Bool
 is_length_wrong file = ltb (length file) 21 || not (eqb (length file) (file_length (nodes_in file)))
 
 -- Refusals 20 to 22, in the order of the tests; the version stands in bytes 3 and 4.
-abbrev pub file_rows : List ℕ → List Row
+abbrev pub file_rows : List ℕ → List (Row Refusal)
 file_rows file =
-    given not_a_plan_file (mark_wrong file)
-    ∷ given version_unknown (not (eqb (be16_of file 3) 1))
-    ∷ given length_wrong (is_length_wrong file)
+    given NotAPlanFile (mark_wrong file)
+    ∷ given VersionUnknown (not (eqb (be16_of file 3) 1))
+    ∷ given LengthWrong (is_length_wrong file)
     ∷ []
 
--- The first of refusals 20 to 22 that speaks against a file; 0 where they let it through.
-unfoldable pub file_number : List ℕ → ℕ
-file_number file = first_given (file_rows file)
+-- The first of refusals 20 to 22 that speaks against a file; none where they let it through.
+unfoldable pub file_refusal : List ℕ → Option Refusal
+file_refusal file = first_given (file_rows file)
 
 -- The sending slot at a place: two bytes each from byte 21 on; 0 for places from N on.
 unfoldable pub slot_at : List ℕ → (k : ℕ) → ℕ
@@ -84,15 +84,19 @@ no_plan =
       slots = replicate 32 (record { 0 = 0 });
     }
 
--- A refused file: the number, and no plan.
-abbrev pub refused_file : (number : ℕ) → PlanRead
-refused_file number = record { answer = Refused number; plan = no_plan }
+-- A refused file: the refusal, and no plan.
+abbrev pub refused_file : Refusal → PlanRead
+refused_file r = record { answer = Err r; plan = no_plan }
+
+-- What is read where a refusal may speak against it: the refused file, or else what is taken.
+abbrev pub unless_refused : Option Refusal → PlanRead → PlanRead
+unless_refused (Some r) taken = refused_file r
+unless_refused None taken = taken
 
 -- A file of the right shape: 1 to 9, then the plan.
 unfoldable pub taken_of : List ℕ → PlanRead
-taken_of file =
-    cond (eqb (plan_number (plan_of file)) 0) (record { answer = Taken; plan = plan_of file }) (refused_file (plan_number (plan_of file)))
+taken_of file = unless_refused (plan_refusal (plan_of file)) (record { answer = Ok tt; plan = plan_of file })
 
 -- What the reader answers: 20 to 22, then 1 to 9, then the plan.
 unfoldable pub read_of : List ℕ → PlanRead
-read_of file = cond (eqb (file_number file) 0) (taken_of file) (refused_file (file_number file))
+read_of file = unless_refused (file_refusal file) (taken_of file)

@@ -1,35 +1,19 @@
 // The reader: the bytes of a plan file to a plan, or to a refusal (20 to 22, then 1 to 9).
 #![tactic(auto)]
 
-ghost use Rattle.std.specs.Prelude.{◌≡◌, ◌+◌, ◌*◌, ◌≤◌, ◌<◌, length};
+ghost use Rattle.std.specs.Prelude.{◌≡◌, ◌+◌, ◌*◌, ◌≤◌, ◌<◌, length, IfOk};
+ghost use Rattle.std.specs.Result.{result_err};
 ghost use Rattle.laws.specs.Bytes.{byte_at};
-ghost use Rattle.plan_file.specs.File.{be16_of, be32_of, mark_wrong, is_length_wrong, file_number, slot_at, slots_of, plan_of, no_plan, read_of};
+ghost use Rattle.plan_file.specs.File.{be16_of, be32_of, mark_wrong, is_length_wrong, file_refusal, slot_at, slots_of, plan_of, no_plan, read_of};
 
-use plan::{LENGTH_WRONG, NOT_A_PLAN_FILE, Node, Plan, Slot, Tick, Time, VERSION_UNKNOWN};
-
-#[derive(Clone, Copy)]
-pub enum Read {
-    Taken,
-    Refused(u8),
-}
+use plan::{Node, Plan, Refusal, Slot, TestedPlan, Tick, Time};
+use std::array;
 
 // What the reader makes of a file: the plan where it is taken, a plan of zeros where it is refused.
-#[derive(Clone, Copy)]
+#[derive(Clone, Copy, Debug)]
 pub struct PlanRead {
-    pub answer: Read,
+    pub answer: Result<(), Refusal>,
     pub plan: Plan,
-}
-
-fn wide16(x: u8) -> u16
-    ensures { (result ≡ x) × (result < 256) }
-{
-    x as u16
-}
-
-fn wide32(x: u8) -> u32
-    ensures { (result ≡ x) × (result < 256) }
-{
-    x as u32
 }
 
 #[tactic(auto, unfolding(crate::specs::File::be16_of))]
@@ -37,7 +21,7 @@ pub fn be16(file: &[u8], at: usize) -> u16
     requires { at + 1 < length file.now }
     ensures { result ≡ be16_of file.now at }
 {
-    wide16(file[at]) * 256 + wide16(file[at + 1])
+    u16::from_be_bytes([file[at], file[at + 1]])
 }
 
 #[tactic(auto, unfolding(crate::specs::File::be32_of))]
@@ -45,10 +29,7 @@ pub fn be32(file: &[u8], at: usize) -> u32
     requires { at + 3 < length file.now }
     ensures { result ≡ be32_of file.now at }
 {
-    wide32(file[at]) * 16777216
-        + wide32(file[at + 1]) * 65536
-        + wide32(file[at + 2]) * 256
-        + wide32(file[at + 3])
+    u32::from_be_bytes([file[at], file[at + 1], file[at + 2], file[at + 3]])
 }
 
 // Fewer than 5 bytes, or mark not `CSP`.
@@ -56,16 +37,7 @@ pub fn be32(file: &[u8], at: usize) -> u32
 fn mark_wrong(file: &[u8]) -> bool
     ensures { result ≡ mark_wrong file.now }
 {
-    if file.len() < 5 {
-        return true;
-    }
-    if file[0] != b'C' {
-        return true;
-    }
-    if file[1] != b'S' {
-        return true;
-    }
-    file[2] != b'P'
+    file.len() < 5 || file[0] != b'C' || file[1] != b'S' || file[2] != b'P'
 }
 
 // Fewer than 21 bytes, or length not 21 + 2 × N.
@@ -73,51 +45,43 @@ fn mark_wrong(file: &[u8]) -> bool
 fn length_wrong(file: &[u8]) -> bool
     ensures { result ≡ is_length_wrong file.now }
 {
-    if file.len() < 21 {
-        return true;
-    }
-    let nodes = file[5] as usize;
-    file.len() != 21 + 2 * nodes
+    file.len() < 21 || file.len() != 21 + 2 * usize::from(file[5])
 }
 
-// The first of refusals 20 to 22 that speaks against the file; 0 where they let it through.
-fn file_number(file: &[u8]) -> u8
-    ensures { result ≡ file_number file.now }
+// The first of refusals 20 to 22 that speaks against the file.
+fn file_tested(file: &[u8]) -> Result<(), Refusal>
+    ensures { result_err result ≡ file_refusal file.now }
 {
     if mark_wrong(file) {
-        return NOT_A_PLAN_FILE;
+        return Err(Refusal::NotAPlanFile);
     }
     if be16(file, 3) != 1 {
-        return VERSION_UNKNOWN;
+        return Err(Refusal::VersionUnknown);
     }
     if length_wrong(file) {
-        return LENGTH_WRONG;
+        return Err(Refusal::LengthWrong);
     }
-    0
+    Ok(())
 }
 
 // The sending slot at a place; 0 from N on.
 #[tactic(auto, unfolding(crate::specs::File::slot_at))]
-fn slot_at(file: &[u8], nodes: usize, place: usize) -> Slot
-    requires { (nodes ≡ byte_at file.now 5) × (nodes ≤ 255) × (place < 32) × (21 + 2 * nodes ≤ length file.now) }
+fn slot_at(file: &[u8], place: usize) -> Slot
+    requires { (place < 32) × (21 ≤ length file.now) × (21 + 2 * byte_at file.now 5 ≤ length file.now) }
     ensures { result.0 ≡ slot_at file.now place }
 {
+    let nodes = usize::from(file[5]);
     if place < nodes {
         return Slot(be16(file, 21 + 2 * place));
     }
     Slot(0)
 }
 
-fn slots_in(file: &[u8], nodes: usize) -> [Slot; 32]
-    requires { (nodes ≡ byte_at file.now 5) × (nodes ≤ 255) × (21 + 2 * nodes ≤ length file.now) }
+fn slots_in(file: &[u8]) -> [Slot; 32]
+    requires { (21 ≤ length file.now) × (21 + 2 * byte_at file.now 5 ≤ length file.now) }
     ensures { result ≡ slots_of file.now }
 {
-    let mut slots = [Slot(0); 32];
-    for place in 0..32 {
-        let slot = slot_at(file, nodes, place);
-        slots[place] = slot;
-    }
-    slots
+    array::from_fn(|place| slot_at(file, place))
 }
 
 // The plan that a file of the right length holds.
@@ -126,9 +90,8 @@ fn plan_in(file: &[u8]) -> Plan
     requires { (21 ≤ length file.now) × (21 + 2 * byte_at file.now 5 ≤ length file.now) }
     ensures { result ≡ plan_of file.now }
 {
-    let slots = slots_in(file, file[5] as usize);
     Plan {
-        nodes: Node(wide32(file[5])),
+        nodes: Node(u32::from(file[5])),
         frame: Slot(be16(file, 6)),
         active: Slot(be16(file, 8)),
         ticks: Tick(file[10]),
@@ -136,7 +99,7 @@ fn plan_in(file: &[u8]) -> Plan
         tail: Tick(file[12]),
         min: Time(be32(file, 13)),
         max: Time(be32(file, 17)),
-        slots: slots,
+        slots: slots_in(file),
     }
 }
 
@@ -144,7 +107,6 @@ fn plan_in(file: &[u8]) -> Plan
 fn no_plan() -> Plan
     ensures { result ≡ no_plan }
 {
-    let slots = [Slot(0); 32];
     Plan {
         nodes: Node(0),
         frame: Slot(0),
@@ -154,31 +116,32 @@ fn no_plan() -> Plan
         tail: Tick(0),
         min: Time(0),
         max: Time(0),
-        slots: slots,
+        slots: [Slot(0); 32],
     }
 }
 
-// A plan file of any length and content: the plan, or the first refusal that speaks against it.
+// A plan file of any length and content: the plan as a tested one, or the first refusal that speaks against it.
+pub fn read_tested(file: &[u8]) -> Result<TestedPlan, Refusal>
+    ensures refusal { result_err result ≡ result_err (read_of file.now).answer }
+    ensures plan { IfOk result (λ tested. tested.plan ≡ (read_of file.now).plan) }
+{
+    file_tested(file)?;
+    plan_in(file).tested()
+}
+
+// The same, with a plan of zeros beside a refusal.
+#[tactic(auto, using(crate::proofs::Passed::refused_whole))]
 pub fn read_plan(file: &[u8]) -> PlanRead
     ensures { result ≡ read_of file.now }
 {
-    let wrong = file_number(file);
-    if wrong != 0 {
-        return PlanRead {
-            answer: Read::Refused(wrong),
+    match read_tested(file) {
+        Ok(tested) => PlanRead {
+            answer: Ok(()),
+            plan: tested.plan,
+        },
+        Err(refusal) => PlanRead {
+            answer: Err(refusal),
             plan: no_plan(),
-        };
-    }
-    let plan = plan_in(file);
-    let number = plan::plan_number(plan);
-    if number != 0 {
-        return PlanRead {
-            answer: Read::Refused(number),
-            plan: no_plan(),
-        };
-    }
-    PlanRead {
-        answer: Read::Taken,
-        plan: plan,
+        },
     }
 }
