@@ -1,24 +1,25 @@
 -- The lines of a run and the line of a refusal, each whole with its newline.
-use Rattle.std.specs.Prelude.{ℕ, List, ◌∷◌, ◌++◌}
+use Rattle.std.specs.Prelude.{ℕ, List, ◌∷◌, ◌++◌, Result, Ok, Err}
+use Rattle.plan.specs.declared.refusal.Refusal.{Refusal}
+use Rattle.plan.specs.Refusals.{number_of}
+use Rattle.run.specs.declared.Apart.{Apart}
 use Rattle.run.specs.declared.Step.{Step}
-use Rattle.run.specs.declared.Answer.{Answer}
-use Rattle.run.specs.declared.Answer.TheVariants.{Done, Refused}
-use Rattle.letters.specs.Letters.{spelt_of}
+use Rattle.letters.specs.Letters.{spelt_of, byte_of}
 use Rattle.text.specs.Text.{bytes, numbered, ended}
 
 -- The one line of a refusal.
-abbrev pub refused_line : ℕ → List ℕ
-refused_line n = ended "refused " n
+abbrev pub refused_line : Refusal → List ℕ
+refused_line refusal = ended "refused " (number_of refusal)
 
 -- A step line: the step's letter, a blank, its number.
 unfoldable pub step_text : Step → List ℕ
-step_text s = (spelt_of s).letter ∷ ended " " (spelt_of s).number
+step_text s = byte_of (spelt_of s).letter ∷ ended " " (spelt_of s).number
 
 -- The stepping program's answer to a step.
-unfoldable pub answer_text : Answer → List ℕ
-answer_text Done = bytes "ok\n"
-answer_text (Refused n) = refused_line n
+unfoldable pub answer_text : Result Unit Refusal → List ℕ
+answer_text (Ok done) = bytes "ok\n"
+answer_text (Err refusal) = refused_line refusal
 
 -- The last line of a shown run: the lowest sending node with a node elsewhere, and the lowest such node.
-unfoldable pub out_text : (a b : ℕ) → List ℕ
-out_text a b = numbered "out " a ++ ended " " b
+unfoldable pub out_text : Apart → List ℕ
+out_text apart = numbered "out " apart.sending.0 ++ ended " " apart.elsewhere.0

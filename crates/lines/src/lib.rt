@@ -6,18 +6,17 @@ ghost use Rattle.text.specs.Text.{Put};
 ghost use Rattle.text.specs.Written.{wrote_of, buffer_of};
 ghost use Rattle.lines.specs.Lines.{refused_line, step_text, answer_text, out_text};
 
-use letters::spell;
-use plan::Node;
-use run::{Answer, Step};
-pub use text::Wrote;
-use text::{has_room, put_byte, put_ended, put_numbered, put_word};
+use letters::Spelt;
+use plan::Refusal;
+use run::{Apart, Step};
+use text::{put_byte, put_ended, put_in_room, put_numbered, put_word};
 
 // The line of a refusal, for whoever has room for it.
-pub fn put_refused(out: &mut [u8], at: usize, number: u8) -> usize
+pub fn put_refused(out: &mut [u8], at: usize, refusal: Refusal) -> usize
     requires { at + 19 ≤ length out.old }
-    ensures { Put 19 out.old at (refused_line number) out.new result }
+    ensures { Put 19 out.old at (refused_line refusal) out.new result }
 {
-    put_ended(out, at, b"refused ", number as u32)
+    put_ended(out, at, b"refused ", refusal.number() as u32)
 }
 
 #[tactic(auto, unfolding(crate::specs::Lines::step_text))]
@@ -25,71 +24,59 @@ fn put_step(out: &mut [u8], at: usize, step: Step) -> usize
     requires { at + 13 ≤ length out.old }
     ensures { Put 13 out.old at (step_text step) out.new result }
 {
-    let spelt = spell(step);
-    let first = put_byte(out, at, spelt.letter);
+    let spelt = Spelt::from(step);
+    let first = put_byte(out, at, u8::from(spelt.letter));
     put_ended(out, first, b" ", spelt.number)
 }
 
 #[tactic(auto, unfolding(crate::specs::Lines::answer_text))]
-fn put_answer(out: &mut [u8], at: usize, answer: Answer) -> usize
+fn put_answer(out: &mut [u8], at: usize, answer: Result<(), Refusal>) -> usize
     requires { at + 19 ≤ length out.old }
     ensures { Put 19 out.old at (answer_text answer) out.new result }
 {
     match answer {
-        Answer::Done => put_word(out, at, b"ok\n"),
-        Answer::Refused(number) => put_refused(out, at, number),
+        Ok(()) => put_word(out, at, b"ok\n"),
+        Err(refusal) => put_refused(out, at, refusal),
     }
 }
 
 #[tactic(auto, unfolding(crate::specs::Lines::out_text))]
-fn put_out(out: &mut [u8], at: usize, a: u32, b: u32) -> usize
+fn put_out(out: &mut [u8], at: usize, apart: Apart) -> usize
     requires { at + 26 ≤ length out.old }
-    ensures { Put 26 out.old at (out_text a b) out.new result }
+    ensures { Put 26 out.old at (out_text apart) out.new result }
 {
-    let first = put_numbered(out, at, b"out ", a);
-    put_ended(out, first, b" ", b)
+    let first = put_numbered(out, at, b"out ", apart.sending.0);
+    put_ended(out, first, b" ", apart.elsewhere.0)
 }
 
 // A step line.
-pub fn write_step(out: &mut [u8], at: usize, step: Step) -> Wrote
+pub fn write_step(out: &mut [u8], at: usize, step: Step) -> Option<usize>
     ensures value { result ≡ wrote_of 32 out.old at (step_text step) }
     ensures out_after { out.new ≡ buffer_of 32 out.old at (step_text step) }
 {
-    if has_room(out.len(), at, 32) {
-        return Wrote::To(put_step(out, at, step));
-    }
-    Wrote::NoRoom
+    put_in_room(out, at, 32, |out| put_step(out, at, step))
 }
 
 // The last line of a shown run.
-pub fn write_out(out: &mut [u8], at: usize, a: Node, b: Node) -> Wrote
-    ensures value { result ≡ wrote_of 32 out.old at (out_text a.0 b.0) }
-    ensures out_after { out.new ≡ buffer_of 32 out.old at (out_text a.0 b.0) }
+pub fn write_out(out: &mut [u8], at: usize, apart: Apart) -> Option<usize>
+    ensures value { result ≡ wrote_of 32 out.old at (out_text apart) }
+    ensures out_after { out.new ≡ buffer_of 32 out.old at (out_text apart) }
 {
-    if has_room(out.len(), at, 32) {
-        return Wrote::To(put_out(out, at, a.0, b.0));
-    }
-    Wrote::NoRoom
+    put_in_room(out, at, 32, |out| put_out(out, at, apart))
 }
 
 // The answer to a step.
-pub fn write_answer(out: &mut [u8], at: usize, answer: Answer) -> Wrote
+pub fn write_answer(out: &mut [u8], at: usize, answer: Result<(), Refusal>) -> Option<usize>
     ensures value { result ≡ wrote_of 32 out.old at (answer_text answer) }
     ensures out_after { out.new ≡ buffer_of 32 out.old at (answer_text answer) }
 {
-    if has_room(out.len(), at, 32) {
-        return Wrote::To(put_answer(out, at, answer));
-    }
-    Wrote::NoRoom
+    put_in_room(out, at, 32, |out| put_answer(out, at, answer))
 }
 
 // The one line of a refusal.
-pub fn write_refused(out: &mut [u8], at: usize, number: u8) -> Wrote
-    ensures value { result ≡ wrote_of 32 out.old at (refused_line number) }
-    ensures out_after { out.new ≡ buffer_of 32 out.old at (refused_line number) }
+pub fn write_refused(out: &mut [u8], at: usize, refusal: Refusal) -> Option<usize>
+    ensures value { result ≡ wrote_of 32 out.old at (refused_line refusal) }
+    ensures out_after { out.new ≡ buffer_of 32 out.old at (refused_line refusal) }
 {
-    if has_room(out.len(), at, 32) {
-        return Wrote::To(put_refused(out, at, number));
-    }
-    Wrote::NoRoom
+    put_in_room(out, at, 32, |out| put_refused(out, at, refusal))
 }

@@ -1,20 +1,23 @@
--- What refusals 20 to 22 let through: files long enough for what is read of them.
+-- What refusals 20 to 22 let through, files long enough for what is read of them; and which of 20 to 22 and 1 to 9 speaks first.
 use Prim.Native.Nat.{ℕ, ◌+◌, ◌*◌, ◌≤◌}
-use mathlib.Core.Path.{◌≡◌, refl, sym}
-use mathlib.Core.Bool.{false, not, ◌||◌}
-use mathlib.Core.List.{List}
-use borrow.Author.Tests.{ltb-false, eqb-true}
+use mathlib.Core.Path.{◌≡◌, sym, ap, ◌∙◌}
+use mathlib.Core.Bool.{true, false, not, ◌||◌}
+use mathlib.Core.List.{List, []}
+use borrow.Author.Tests.{ltb-false, eqb-true, eq-eqb, ne_eqb}
 use lib.ListN.{length}
 use lib.Dec.{eqb, ltb}
 use Rattle.laws.proofs.Bools.{or_false_left, or_false_right, false_not_true}
-use Rattle.laws.proofs.Rows.{all_off}
-use Rattle.std.specs.Prelude.{Option, None, Some, Result, Ok, Err, IfOk}
+use Rattle.laws.specs.Row.{given}
+use Rattle.laws.proofs.Rows.{all_off, off_all, first_here, first_next}
+use Rattle.std.specs.Prelude.{Option, None, Some, Err}
+use Rattle.std.proofs.lemmas.Option.{none-some}
 use Rattle.std.specs.Result.{result_err}
+use Rattle.std.specs.Option.{option_or}
 use Rattle.plan.specs.declared.refusal.Refusal.{Refusal}
-use Rattle.plan.specs.declared.tested.TestedPlan.{TestedPlan}
+use Rattle.plan.specs.declared.refusal.Refusal.TheVariants.{NotAPlanFile, VersionUnknown, LengthWrong}
 use Rattle.plan.specs.Tested.{plan_refusal}
 use Rattle.laws.specs.Bytes.{byte_at}
-use Rattle.plan_file.specs.File.{mark_wrong, is_length_wrong, file_rows, file_refusal, plan_of, refused_file, taken_of, read_of}
+use Rattle.plan_file.specs.File.{be16_of, mark_wrong, is_length_wrong, file_rows, file_refusal, plan_of, no_plan, read_by, read_of}
 
 pub mark_long : (file : List ℕ) → mark_wrong file ≡ false → 5 ≤ length file
 unfolding mark_wrong
@@ -40,47 +43,46 @@ whole file e =
       exact = eqb-true (length file) (21 + 2 * byte_at file 5) (false_not_true same (or_false_right short (not same) o.1.1.0));
     }
 
--- what the reader answers, by who speaks first
+-- 20, 21, 22 in turn: where a test holds its row gives the refusal, where it doesn't the rows after it decide
 
-pub read_refused : (file : List ℕ) (r : Refusal) → file_refusal file ≡ Some r → read_of file ≡ refused_file r
+pub speaks_20 : (file : List ℕ) → mark_wrong file ≡ true → Some NotAPlanFile ≡ file_refusal file
+unfolding file_refusal
+speaks_20 file m = sym (first_here (given NotAPlanFile (mark_wrong file)) _ m)
+
+pub speaks_21 : (file : List ℕ) → mark_wrong file ≡ false → (be16_of file 3 ≡ 1 → ⊥) → Some VersionUnknown ≡ file_refusal file
+unfolding file_refusal
+speaks_21 file m v = sym (first_next (given NotAPlanFile (mark_wrong file)) _ m ∙ first_here (given VersionUnknown (not (eqb (be16_of file 3) 1))) _ (ap not (ne_eqb _ 1 v)))
+
+pub speaks_22 : (file : List ℕ) → mark_wrong file ≡ false → be16_of file 3 ≡ 1 → is_length_wrong file ≡ true → Some LengthWrong ≡ file_refusal file
+unfolding file_refusal
+speaks_22 file m v l = sym (first_next (given NotAPlanFile (mark_wrong file)) _ m ∙ first_next (given VersionUnknown (not (eqb (be16_of file 3) 1))) _ (ap not (eq-eqb _ 1 v)) ∙ first_here (given LengthWrong (is_length_wrong file)) [] l)
+
+pub none_speaks : (file : List ℕ) → mark_wrong file ≡ false → be16_of file 3 ≡ 1 → is_length_wrong file ≡ false → None ≡ file_refusal file
+unfolding file_refusal
+none_speaks file m v l = sym (off_all (file_rows file) (m, (ap not (eq-eqb _ 1 v), (l, tt))))
+
+-- what the reader answers, by the first of both that speaks
+
+pub refused_by_file : (file : List ℕ) (r : Refusal) → Some r ≡ file_refusal file → Some r ≡ result_err (read_of file).answer
 unfolding read_of
-read_refused file r e = rw e
+refused_by_file file r e = rw (← e)
 
-pub read_tested_refused : (file : List ℕ) (r : Refusal) → file_refusal file ≡ None → plan_refusal (plan_of file) ≡ Some r → read_of file ≡ refused_file r
-unfolding read_of taken_of
-read_tested_refused file r e p = rw (e, p)
-
-pub read_taken : (file : List ℕ) → file_refusal file ≡ None → plan_refusal (plan_of file) ≡ None → read_of file ≡ record { answer = Ok tt; plan = plan_of file }
-unfolding read_of taken_of
-read_taken file e p = rw (e, p)
-
--- past 20 to 22, what is told of the plan in the file is told of what is read
-pub answer_past : (file : List ℕ) → file_refusal file ≡ None → plan_refusal (plan_of file) ≡ result_err (read_of file).answer
-answer_past file e = go (plan_refusal (plan_of file)) refl
+pub refused_by_plan : (file : List ℕ) (x : Option Refusal) → None ≡ file_refusal file → x ≡ plan_refusal (plan_of file) → x ≡ result_err (read_of file).answer
+unfolding read_of
+refused_by_plan file x f p = go (plan_refusal (plan_of file)) p
   where
-    go : (b : Option Refusal) → plan_refusal (plan_of file) ≡ b → b ≡ result_err (read_of file).answer
-    go (Some r) q = rw (read_tested_refused file r e q)
-    go None q = rw (read_taken file e q)
+    go : (y : Option Refusal) → x ≡ y → x ≡ result_err (read_by (option_or (file_refusal file) y) (plan_of file)).answer
+    go (Some r) e = rw (← f) e
+    go None e = rw (← f) e
 
-pub plan_past : (file : List ℕ) (answer : Result TestedPlan Refusal) → file_refusal file ≡ None → result_err answer ≡ plan_refusal (plan_of file)
-    → IfOk answer (λ tested. tested.plan ≡ plan_of file) → IfOk answer (λ tested. tested.plan ≡ (read_of file).plan)
-plan_past file (Err r) e p h = tt
-plan_past file (Ok tested) e p h = rw (read_taken file e (sym p)) h
+pub plan_taken : (file : List ℕ) → None ≡ file_refusal file → None ≡ plan_refusal (plan_of file) → plan_of file ≡ (read_of file).plan
+unfolding read_of
+plan_taken file f p = rw (← f, ← p)
 
--- a refusal in the answer is the whole answer
-pub refused_whole : (file : List ℕ) (r : Refusal) → Some r ≡ result_err (read_of file).answer → refused_file r ≡ read_of file
-refused_whole file r h = go (file_refusal file) refl (plan_refusal (plan_of file)) refl
+pub refused_read : (file : List ℕ) (r : Refusal) → Some r ≡ result_err (read_of file).answer → record { answer = Err r; plan = no_plan } ≡ read_of file
+unfolding read_of
+refused_read file r e = go (option_or (file_refusal file) (plan_refusal (plan_of file))) e
   where
-    go : (a : Option Refusal) → file_refusal file ≡ a → (b : Option Refusal) → plan_refusal (plan_of file) ≡ b → refused_file r ≡ read_of file
-    go (Some x) p b q = let z : Some r ≡ Some x = rw (read_refused file x p) at h in let y : r ≡ x = cc in rw (read_refused file x p, y)
-    go None p (Some x) q = let z : Some r ≡ Some x = rw (read_tested_refused file x p q) at h in let y : r ≡ x = cc in rw (read_tested_refused file x p q, y)
-    go None p None q = let z : ◌≡◌ {A = Option Refusal} (Some r) None = rw (read_taken file p q) at h in cc
-
--- a plan that the reader takes passed 1 to 9
-pub taken_passes : (file : List ℕ) → (read_of file).answer ≡ Ok tt → plan_refusal (read_of file).plan ≡ None
-taken_passes file h = go (file_refusal file) refl (plan_refusal (plan_of file)) refl
-  where
-    go : (a : Option Refusal) → file_refusal file ≡ a → (b : Option Refusal) → plan_refusal (plan_of file) ≡ b → plan_refusal (read_of file).plan ≡ None
-    go (Some r) p b q = let z : Err r ≡ Ok tt = rw (read_refused file r p) at h in cc
-    go None p (Some r) q = let z : Err r ≡ Ok tt = rw (read_tested_refused file r p q) at h in cc
-    go None p None q = rw (read_taken file p q) q
+    go : (x : Option Refusal) → Some r ≡ result_err (read_by x (plan_of file)).answer → record { answer = Err r; plan = no_plan } ≡ read_by x (plan_of file)
+    go (Some q) h = let same : r ≡ q = cc in rw same
+    go None h = absurd (none-some r (sym h))

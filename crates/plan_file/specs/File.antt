@@ -1,5 +1,6 @@
 -- The format of a plan file, over the list of its bytes, and what the reader answers.
 use Rattle.std.specs.Prelude.{ℕ, ◌+◌, ◌*◌, Bool, cond, not, ◌||◌, List, [], ◌∷◌, length, replicate, Option, None, Some, Ok, Err, eqb, ltb}
+use Rattle.std.specs.Option.{option_or}
 use Rattle.laws.specs.Bytes.{byte_at}
 use Rattle.laws.specs.Row.{Row, given, first_given}
 use Rattle.laws.specs.Over.{over}
@@ -84,19 +85,11 @@ no_plan =
       slots = replicate 32 (record { 0 = 0 });
     }
 
--- A refused file: the refusal, and no plan.
-abbrev pub refused_file : Refusal → PlanRead
-refused_file r = record { answer = Err r; plan = no_plan }
-
--- What is read where a refusal may speak against it: the refused file, or else what is taken.
-abbrev pub unless_refused : Option Refusal → PlanRead → PlanRead
-unless_refused (Some r) taken = refused_file r
-unless_refused None taken = taken
-
--- A file of the right shape: 1 to 9, then the plan.
-unfoldable pub taken_of : List ℕ → PlanRead
-taken_of file = unless_refused (plan_refusal (plan_of file)) (record { answer = Ok tt; plan = plan_of file })
+-- A file that is read: the refusal, and no plan; or the plan.
+abbrev pub read_by : Option Refusal → Plan → PlanRead
+read_by (Some refusal) P = record { answer = Err refusal; plan = no_plan }
+read_by None P = record { answer = Ok tt; plan = P }
 
 -- What the reader answers: 20 to 22, then 1 to 9, then the plan.
 unfoldable pub read_of : List ℕ → PlanRead
-read_of file = unless_refused (file_refusal file) (taken_of file)
+read_of file = read_by (option_or (file_refusal file) (plan_refusal (plan_of file))) (plan_of file)

@@ -7,9 +7,8 @@ ghost use Rattle.laws.specs.Bytes.{byte_at};
 ghost use Rattle.plan_file.specs.File.{be16_of, be32_of, mark_wrong, is_length_wrong, file_refusal, slot_at, slots_of, plan_of, no_plan, read_of};
 
 use plan::{Node, Plan, Refusal, Slot, TestedPlan, Tick, Time};
-use std::array;
 
-// What the reader makes of a file: the plan where it is taken, a plan of zeros where it is refused.
+// What the reader makes of a file: the plan where it is taken, a plan of zeros where it is refused. (`read_plan` promises the zeros.)
 #[derive(Clone, Copy, Debug)]
 pub struct PlanRead {
     pub answer: Result<(), Refusal>,
@@ -48,7 +47,8 @@ fn length_wrong(file: &[u8]) -> bool
     file.len() < 21 || file.len() != 21 + 2 * usize::from(file[5])
 }
 
-// The first of refusals 20 to 22 that speaks against the file.
+// 20 to 22.
+#[tactic(auto, using(crate::proofs::Passed::speaks_20, crate::proofs::Passed::speaks_21, crate::proofs::Passed::speaks_22, crate::proofs::Passed::none_speaks, crate::proofs::Passed::mark_long))]
 fn file_tested(file: &[u8]) -> Result<(), Refusal>
     ensures { result_err result ≡ file_refusal file.now }
 {
@@ -77,11 +77,16 @@ fn slot_at(file: &[u8], place: usize) -> Slot
     Slot(0)
 }
 
+#[tactic(auto, using(laws::proofs::Overs::over_none))]
 fn slots_in(file: &[u8]) -> [Slot; 32]
     requires { (21 ≤ length file.now) × (21 + 2 * byte_at file.now 5 ≤ length file.now) }
     ensures { result ≡ slots_of file.now }
 {
-    array::from_fn(|place| slot_at(file, place))
+    let mut slots = [Slot(0); 32];
+    for (place, slot) in slots.iter_mut().enumerate() {
+        *slot = slot_at(file, place);
+    }
+    slots
 }
 
 // The plan that a file of the right length holds.
@@ -120,7 +125,8 @@ fn no_plan() -> Plan
     }
 }
 
-// A plan file of any length and content: the plan as a tested one, or the first refusal that speaks against it.
+// A plan file of any length and content: the plan, which passed 1 to 9, or the first refusal that speaks against it.
+#[tactic(auto, using(crate::proofs::Passed::refused_by_file, crate::proofs::Passed::refused_by_plan, crate::proofs::Passed::plan_taken, crate::proofs::Passed::whole))]
 pub fn read_tested(file: &[u8]) -> Result<TestedPlan, Refusal>
     ensures refusal { result_err result ≡ result_err (read_of file.now).answer }
     ensures plan { IfOk result (λ tested. tested.plan ≡ (read_of file.now).plan) }
@@ -130,7 +136,7 @@ pub fn read_tested(file: &[u8]) -> Result<TestedPlan, Refusal>
 }
 
 // The same, with a plan of zeros beside a refusal.
-#[tactic(auto, using(crate::proofs::Passed::refused_whole))]
+#[tactic(auto, using(crate::proofs::Passed::refused_read))]
 pub fn read_plan(file: &[u8]) -> PlanRead
     ensures { result ≡ read_of file.now }
 {

@@ -1,5 +1,5 @@
 -- What one look round the nodes finds for the next step.
-use Rattle.std.specs.Prelude.{ℕ, ◌-◌, Bool, cond, ◌&&◌}
+use Rattle.std.specs.Prelude.{ℕ, ◌-◌, Bool, cond, ◌&&◌, Option, None, Some, ltb}
 use Rattle.laws.specs.Below.{first_from}
 use Rattle.plan.specs.declared.Plan.{Plan}
 use Rattle.plan.specs.declared.Node.{Node}
@@ -7,13 +7,15 @@ use Rattle.run.specs.State.{node, is_about, is_sending}
 use Rattle.shown.specs.declared.Parts.{Parts}
 use Rattle.shown.specs.declared.Place.{Place}
 use Rattle.shown_look.specs.declared.Seen.{Seen}
-use Rattle.shown_look.specs.declared.Looked.{Looked}
-use Rattle.shown_look.specs.declared.Looked.TheVariants.{PastDue, OnTime}
 use Rattle.shown.specs.Shown.{is_due, past_due, goes_first, goes_second}
 
--- The lowest node from i on that passes; N where none does.
-abbrev pub lowest_from : Plan → ℕ → (ℕ → Bool) → Node
-lowest_from P i f = record { 0 = first_from f (P.nodes.0 - i) i }
+-- The node with this number; none where that is N or more.
+abbrev pub node_below : Plan → ℕ → Option Node
+node_below P i = cond (ltb i P.nodes.0) (Some (record { 0 = i })) None
+
+-- The lowest node from i on that passes; none where none does.
+abbrev pub lowest_from : Plan → ℕ → (ℕ → Bool) → Option Node
+lowest_from P i f = node_below P (first_from f (P.nodes.0 - i) i)
 
 -- The lowest of the nodes from i on: about to send, due of those who go first, of those who go next, of all, sending.
 unfoldable pub seen_from : Plan → Parts → Place → ℕ → Seen
@@ -26,6 +28,6 @@ seen_from P parts q i =
       sending = lowest_from P i (λ k. is_sending (node q.run k).mode);
     }
 
--- A time past due, or what was seen of all nodes.
-unfoldable pub looked_of : Plan → Parts → Place → Looked
-looked_of P parts q = cond (past_due P parts q) PastDue (OnTime (seen_from P parts q 0))
+-- What was seen of all nodes; none where a time is past due.
+unfoldable pub looked_of : Plan → Parts → Place → Option Seen
+looked_of P parts q = cond (past_due P parts q) None (Some (seen_from P parts q 0))

@@ -10,11 +10,12 @@ use native.Mathlib.Omega.{arith}
 use borrow.Author.Tests.{eqb-true, eqb-false, eq-eqb, ne_eqb, le-leb, lt-leb}
 use lib.Dec.{eqb, leb}
 use lib.ListN.{length, length-append}
+use Rattle.std.specs.Prelude.{None, Ok}
 use Rattle.laws.proofs.Bools.{clash, not_so, and_true_left, and_true_right, true_not_false}
 use Rattle.laws.proofs.Belows.{Reached, least_under, least_reached}
 use Rattle.plan.specs.declared.Plan.{Plan}
 use Rattle.plan.specs.Sending.{own}
-use Rattle.plan.specs.Tested.{plan_number, Sound}
+use Rattle.plan.specs.Tested.{plan_refusal, Sound}
 use Rattle.run.specs.declared.NodeState.{NodeState}
 use Rattle.run.specs.declared.Run.{Run}
 use Rattle.run.specs.declared.Step.TheVariants.{Delay, TickOf, SendOf}
@@ -65,7 +66,7 @@ record Moment (P : Plan) (c : Parts) (y : ℕ) (r : Run) (due : ℕ → Bool) (n
 abbrev pub Anywhere : Run → Type 0
 Anywhere r = Unit {0}
 
-module _ {P : Plan} {c : Parts} (o : Sound P) (R : Roles P c) (plain : plan_number P ≡ 0) (by_parts : (q : Place) → in_range P q.run ≡ true → given_of P q ≡ given_by P c q) where
+module _ {P : Plan} {c : Parts} (o : Sound P) (R : Roles P c) (plain : plan_refusal P ≡ None) (by_parts : (q : Place) → in_range P q.run ≡ true → given_of P q ≡ Ok (given_by P c q)) where
   abbrev f : ℕ
   f = c.fast.0
 

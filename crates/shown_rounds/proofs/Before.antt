@@ -8,11 +8,12 @@ use native.Mathlib.Decide.{ℕ_discrete}
 use native.Mathlib.Omega.{arith}
 use borrow.Author.Tests.{le-leb, lt-leb}
 use lib.Dec.{leb}
+use Rattle.std.specs.Prelude.{None, Ok}
 use Rattle.laws.proofs.Bools.{clash, not_so, true_not_false, false_not_true, and_true_left, and_true_right}
 use Rattle.plan.specs.declared.Plan.{Plan}
 use Rattle.plan.specs.declared.Time.{Time}
 use Rattle.plan.specs.Sending.{own}
-use Rattle.plan.specs.Tested.{plan_number, Sound}
+use Rattle.plan.specs.Tested.{plan_refusal, Sound}
 use Rattle.run.specs.declared.NodeState.{NodeState}
 use Rattle.run.specs.declared.Run.{Run}
 use Rattle.run.specs.declared.Step.{Step}
@@ -74,7 +75,7 @@ due_first P r i k = turns P r k || leb i k
 abbrev due_second : Plan → Run → ℕ → ℕ → Bool
 due_second P r i k = turns P r k && leb i k
 
-module _ {P : Plan} {c : Parts} (o : Sound P) (R : Roles P c) (plain : plan_number P ≡ 0) (by_parts : (q : Place) → in_range P q.run ≡ true → given_of P q ≡ given_by P c q) where
+module _ {P : Plan} {c : Parts} (o : Sound P) (R : Roles P c) (plain : plan_refusal P ≡ None) (by_parts : (q : Place) → in_range P q.run ≡ true → given_of P q ≡ Ok (given_by P c q)) where
   had_early : (T : ℕ) (a : NodeState) (v : ℕ) → Had T a v → a.time.0 ≢ P.min.0
   had_early T a v h = omega (arith, h.time, o.min_low)
 

@@ -8,12 +8,13 @@ use native.Mathlib.Decide.{ℕ_discrete}
 use native.Mathlib.Omega.{arith}
 use borrow.Author.Tests.{eqb-false, eq-eqb, ne_eqb, le-leb, lt-leb}
 use lib.Dec.{eqb, leb}
+use Rattle.std.specs.Prelude.{None, Ok}
 use Rattle.laws.specs.Ring.{distance}
 use Rattle.laws.proofs.Bools.{clash, not_so, and_true_left, and_true_right, true_not_false}
 use Rattle.laws.proofs.Ring.{from_0}
 use Rattle.plan.specs.declared.Plan.{Plan}
 use Rattle.plan.specs.Sending.{own}
-use Rattle.plan.specs.Tested.{plan_number, Sound}
+use Rattle.plan.specs.Tested.{plan_refusal, Sound}
 use Rattle.plan.proofs.Sound.{own_in_frame}
 use Rattle.run.specs.declared.Run.{Run}
 use Rattle.run.specs.declared.Step.{Step}
@@ -66,7 +67,7 @@ pub record Ticked (P : Plan) (r : Run) : Type 0 where
   pub quiet : Quiet P (later r)
   pub times : (k : ℕ) → k < P.nodes.0 → (node r k).time.0 ≡ 0
 
-module _ {P : Plan} {c : Parts} (o : Sound P) (R : Roles P c) (plain : plan_number P ≡ 0) (by_parts : (q : Place) → in_range P q.run ≡ true → given_of P q ≡ given_by P c q) where
+module _ {P : Plan} {c : Parts} (o : Sound P) (R : Roles P c) (plain : plan_refusal P ≡ None) (by_parts : (q : Place) → in_range P q.run ≡ true → given_of P q ≡ Ok (given_by P c q)) where
   abbrev f : ℕ
   f = c.fast.0
 

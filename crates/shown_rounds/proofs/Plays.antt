@@ -3,20 +3,22 @@ use mathlib.Core.Path.{◌≡◌, refl, ap, ◌∙◌}
 use mathlib.Core.Bool.{true, false}
 use mathlib.Core.List.{List, [], ◌∷◌, ◌++◌}
 use lib.ListN.{length}
+use Rattle.std.specs.Prelude.{Option, None, Some, Result, Ok}
+use Rattle.std.specs.Result.{result_unwrap_or}
 use Rattle.plan.specs.declared.Plan.{Plan}
-use Rattle.plan.specs.Tested.{plan_number, Sound}
+use Rattle.plan.specs.Tested.{plan_refusal, Sound}
 use Rattle.run.specs.declared.Run.{Run}
 use Rattle.run.specs.declared.Step.{Step}
-use Rattle.run.specs.declared.Stepped.{Stepped}
+use Rattle.plan.specs.declared.refusal.Refusal.{Refusal}
 use Rattle.run.specs.State.{in_range, is_out_of_step}
 use Rattle.run.specs.Moves.{moved}
-use Rattle.run.specs.Steps.{step_of, run_after}
+use Rattle.run.specs.Steps.{run_left, run_after}
 use Rattle.run.proofs.Legal.{step_legal, step_done}
 use Rattle.shown.specs.declared.Mark.{Mark}
 use Rattle.shown.specs.declared.Place.{Place}
 use Rattle.shown.specs.declared.Parts.{Parts}
-use Rattle.shown.specs.declared.Next.TheVariants.{Takes}
-use Rattle.shown.specs.Shown.{next_step, place_after, given_by, given_of, place_at, shown_steps}
+use Rattle.shown.specs.declared.Given.{Given}
+use Rattle.shown.specs.Shown.{next_step, place_after, given_by, given_of, place_given, place_at, shown_steps}
 use Rattle.shown.proofs.Play.{OnTime, Move, on_time, next_move, move_legal}
 use Rattle.shown.proofs.Giving.{given_takes}
 use Rattle.shows_why.proofs.Progress.{Kept, kept_after}
@@ -25,27 +27,28 @@ use Rattle.shows_why.proofs.Progress.{Kept, kept_after}
 abbrev pub Plays : Plan → Place → List Step → Place → Type 0
 Plays P q [] z = q ≡ z
 Plays P q (s ∷ steps) z =
-    (is_out_of_step P q.run ≡ false)
-    × ((given_of P q).next ≡ Takes s)
-    × ((step_of P q.run s).run ≡ (given_of P q).place.run)
-    × Plays P (given_of P q).place steps z
+    (p : Place)
+    × (is_out_of_step P q.run ≡ false)
+    × (given_of P q ≡ Ok (Some (record { step = s; place = p })))
+    × (run_left P q.run s ≡ p.run)
+    × Plays P p steps z
 
 module _ (P : Plan) where
   pub plays_then : (a b : List Step) (q y z : Place) → Plays P q a y → Plays P y b z → Plays P q (a ++ b) z
   plays_then [] b q y z h k = rw h k
-  plays_then (s ∷ a) b q y z h k = (h.0, h.1, h.2, plays_then a b (given_of P q).place y z h.3 k)
+  plays_then (s ∷ a) b q y z h k = (h.0, h.1, h.2, h.3, plays_then a b h.0 y z h.4 k)
 
   pub plays_shown : (steps : List Step) (q z : Place) → Plays P q steps z → shown_steps P (length steps) q ≡ steps
   plays_shown [] q z h = refl
-  plays_shown (s ∷ steps) q z h = rw h.1 (ap (λ (l : List Step). s ∷ l) (plays_shown steps (given_of P q).place z h.3))
+  plays_shown (s ∷ steps) q z h = rw h.2 (ap (λ (l : List Step). s ∷ l) (plays_shown steps h.0 z h.4))
 
   pub plays_place : (steps : List Step) (q z : Place) → Plays P q steps z → place_at P (length steps) q ≡ z
   plays_place [] q z h = h
-  plays_place (s ∷ steps) q z h = plays_place steps (given_of P q).place z h.3
+  plays_place (s ∷ steps) q z h = ap (λ (g : Result (Option Given) Refusal). place_at P (length steps) (place_given g q)) h.2 ∙ plays_place steps h.0 z h.4
 
   plays_run : (steps : List Step) (q z : Place) → Plays P q steps z → run_after P q.run steps ≡ z.run
   plays_run [] q z h = ap (λ (p : Place). p.run) h
-  plays_run (s ∷ steps) q z h = rw h.2 (plays_run steps (given_of P q).place z h.3)
+  plays_run (s ∷ steps) q z h = rw h.3 (plays_run steps h.0 z h.4)
 
   -- the steps lead from q to a run of which J holds, with the mark m
   pub record Leads (q : Place) (steps : List Step) (m : Mark) (J : Run → Type 0) : Type 0 where
@@ -72,14 +75,14 @@ module _ (P : Plan) where
 pub record Taken (P : Plan) (c : Parts) (q : Place) (s : Step) : Type 0 where
   pub move : Move P c q s
   pub together : is_out_of_step P q.run ≡ false
-  pub given : given_of P q ≡ record { next = Takes s; place = place_after P c q s }
-  pub done : (step_of P q.run s).run ≡ moved P q.run s
+  pub given : given_of P q ≡ Ok (Some (record { step = s; place = place_after P c q s }))
+  pub done : run_left P q.run s ≡ moved P q.run s
   pub kept : Kept P (moved P q.run s)
 
 pub takes_then : (P : Plan) (c : Parts) (q : Place) (s : Step) (steps : List Step) (m : Mark) (J : Run → Type 0) → Taken P c q s → Leads P (place_after P c q s) steps m J → Leads P q (s ∷ steps) m J
-takes_then P c q s steps m J t h = record { to = h.to; plays = rw t.given (t.together, refl, t.done, h.plays); holds = h.holds }
+takes_then P c q s steps m J t h = record { to = h.to; plays = (place_after P c q s, t.together, t.given, t.done, h.plays); holds = h.holds }
 
-module _ (P : Plan) (c : Parts) (o : Sound P) (plain : plan_number P ≡ 0) (by_parts : (q : Place) → in_range P q.run ≡ true → given_of P q ≡ given_by P c q) where
+module _ (P : Plan) (c : Parts) (o : Sound P) (plain : plan_refusal P ≡ None) (by_parts : (q : Place) → in_range P q.run ≡ true → given_of P q ≡ Ok (given_by P c q)) where
   pub takes : (q : Place) (s : Step) → Kept P q.run → OnTime P c q → is_out_of_step P q.run ≡ false → next_step P c q ≡ s → Taken P c q s
   takes q s k t e n =
       let move : Move P c q s = rw n at (next_move P c o q t) in
@@ -88,7 +91,7 @@ module _ (P : Plan) (c : Parts) (o : Sound P) (plain : plan_number P ≡ 0) (by_
       record {
         move = move;
         together = e;
-        given = by_parts q k.range ∙ given_takes P c q s n e (on_time P c o q t) number;
-        done = ap (λ (a : Stepped). a.run) (step_done P q.run s plain number);
+        given = by_parts q k.range ∙ ap Ok (given_takes P c q s n e (on_time P c o q t) number);
+        done = ap (λ (a : Result Run Refusal). result_unwrap_or a q.run) (step_done P q.run s plain number);
         kept = kept_after P c o plain by_parts q s k legal;
       }

@@ -10,14 +10,14 @@ use Rattle.laws.specs.Ring.{distance}
 use Rattle.plan.specs.declared.Plan.{Plan}
 use Rattle.plan.specs.Numbers.{plan_by, slots}
 use Rattle.plan.specs.Sending.{sends}
-use Rattle.plan.specs.Tested.{is_active_outside, is_guard_or_tail_wrong, is_min_or_max_wrong, some_not_active, shares_slot, some_shared, plan_number}
+use Rattle.plan.specs.Tested.{is_active_outside, is_guard_or_tail_wrong, is_min_or_max_wrong, some_not_active, shares_slot, some_shared, plan_refusal}
 use Rattle.gap.specs.Gap.{nearest, predecessor, distance_before, gap_of}
 use Rattle.rules.specs.declared.Rule.{Rule}
 use Rattle.rules.specs.declared.Rule.TheVariants.{One, Two, Three}
 use Rattle.run.specs.declared.Step.{Step}
 use Rattle.run.specs.State.{fresh_run, in_range, sends_apart, is_out_of_step}
 use Rattle.run.specs.Moves.{clock_after, mode_after, slot_after}
-use Rattle.run.specs.Steps.{step_number, step_tested, step_of}
+use Rattle.run.specs.Steps.{step_refusal, step_tested, step_of}
 use Rattle.run.proofs.Letters.{D, T, S}
 use Rattle.shown.specs.Parts.{predecessor_at, widest_from, widest_node, parts_for}
 use Rattle.shown_rounds.specs.Rounds.{in_order_from, round_before, pivot_round, rounds_before}
@@ -52,5 +52,5 @@ Right [] = Unit {0}
 Right (w ∷ more) = (until_out w.plan fresh_run (told w.plan (parts_for w.plan w.rule) w.rounds w.moments) ≡ w.steps) × Right more
 
 sample_right : Right sample
-unfolding told_of sample Right first_given any_below all_below first_from largest_below least_below over distance sends is_active_outside is_guard_or_tail_wrong is_min_or_max_wrong some_not_active shares_slot some_shared plan_number nearest predecessor distance_before gap_of fresh_run in_range sends_apart is_out_of_step clock_after mode_after slot_after step_number step_tested step_of predecessor_at widest_from widest_node parts_for in_order_from round_before pivot_round rounds_before at_moment next_moment moments until_out
+unfolding told_of sample Right first_given any_below all_below first_from largest_below least_below over distance sends is_active_outside is_guard_or_tail_wrong is_min_or_max_wrong some_not_active shares_slot some_shared plan_refusal nearest predecessor distance_before gap_of fresh_run in_range sends_apart is_out_of_step clock_after mode_after slot_after step_refusal step_tested step_of predecessor_at widest_from widest_node parts_for in_order_from round_before pivot_round rounds_before at_moment next_moment moments until_out
 sample_right = (refl, (refl, (refl, (refl, tt))))

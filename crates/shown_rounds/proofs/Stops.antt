@@ -5,8 +5,9 @@ use mathlib.Core.Bool.{Bool, true, false}
 use mathlib.Core.List.{List, [], ◌∷◌, ◌++◌, append_assoc, append-nil}
 use native.Mathlib.Nat.{not-suc-le-zero, le_of_suc-le-suc}
 use lib.ListN.{length, take}
+use Rattle.std.specs.Prelude.{None, Ok}
 use Rattle.plan.specs.declared.Plan.{Plan}
-use Rattle.plan.specs.Tested.{plan_number, Sound}
+use Rattle.plan.specs.Tested.{plan_refusal, Sound}
 use Rattle.run.specs.declared.Run.{Run}
 use Rattle.run.specs.declared.Step.{Step}
 use Rattle.run.specs.State.{in_range, is_out_of_step}
@@ -14,8 +15,7 @@ use Rattle.run.specs.Steps.{run_after}
 use Rattle.shown.specs.declared.Mark.{Mark}
 use Rattle.shown.specs.declared.Place.{Place}
 use Rattle.shown.specs.declared.Parts.{Parts}
-use Rattle.shown.specs.declared.Next.TheVariants.{Finished}
-use Rattle.shown.specs.Shown.{next_step, place_after, stays, given_by, given_of, shown_steps}
+use Rattle.shown.specs.Shown.{next_step, place_after, given_by, given_of, shown_steps}
 use Rattle.shown.proofs.Play.{OnTime}
 use Rattle.shown.proofs.Giving.{given_stops}
 use Rattle.shows_why.proofs.Progress.{Kept}
@@ -73,20 +73,20 @@ module _ (P : Plan) where
   plays_until : (a b : List Step) (q z : Place) → Plays P q a z → until_out P q.run (a ++ b) ≡ a ++ until_out P z.run b
   unfolding until_out
   plays_until [] b q z h = rw h
-  plays_until (s ∷ a) b q z h = rw (h.0, h.2) (ap (λ (l : List Step). s ∷ l) (plays_until a b (given_of P q).place z h.3))
+  plays_until (s ∷ a) b q z h = rw (h.1, h.3) (ap (λ (l : List Step). s ∷ l) (plays_until a b h.0 z h.4))
 
   -- the first n steps, where there are as many, or where no more are given
   plays_few : (steps : List Step) (q z : Place) → Plays P q steps z → (n : ℕ) → n ≤ length steps → shown_steps P n q ≡ take n steps
   plays_few steps q z h zero l = refl
   plays_few [] q z h (suc n) l = absurd (not-suc-le-zero l)
-  plays_few (s ∷ steps) q z h (suc n) l = rw h.1 (ap (λ (l : List Step). s ∷ l) (plays_few steps (given_of P q).place z h.3 n (le_of_suc-le-suc l)))
+  plays_few (s ∷ steps) q z h (suc n) l = rw h.2 (ap (λ (l : List Step). s ∷ l) (plays_few steps h.0 z h.4 n (le_of_suc-le-suc l)))
 
   plays_all : (steps : List Step) (q z : Place) → Plays P q steps z → ((n : ℕ) → shown_steps P n z ≡ []) → (n : ℕ) → shown_steps P n q ≡ take n steps
   plays_all steps q z h e zero = refl
   plays_all [] q z h e (suc n) = rw (← h) at (e (suc n))
-  plays_all (s ∷ steps) q z h e (suc n) = rw h.1 (ap (λ (l : List Step). s ∷ l) (plays_all steps (given_of P q).place z h.3 e n))
+  plays_all (s ∷ steps) q z h e (suc n) = rw h.2 (ap (λ (l : List Step). s ∷ l) (plays_all steps h.0 z h.4 e n))
 
-module _ (P : Plan) (c : Parts) (o : Sound P) (plain : plan_number P ≡ 0) (by_parts : (q : Place) → in_range P q.run ≡ true → given_of P q ≡ given_by P c q) where
+module _ (P : Plan) (c : Parts) (o : Sound P) (plain : plan_refusal P ≡ None) (by_parts : (q : Place) → in_range P q.run ≡ true → given_of P q ≡ Ok (given_by P c q)) where
   -- the next step is taken, or the run stops here
   pub goes_by : (q : Place) (s : Step) (steps : List Step) (m : Mark) (J : Run → Type 0) → Kept P q.run → OnTime P c q → next_step P c q ≡ s
       → (Taken P c q s → Goes P (place_after P c q s) steps m J) → Goes P q (s ∷ steps) m J
@@ -100,7 +100,7 @@ module _ (P : Plan) (c : Parts) (o : Sound P) (plain : plan_number P ≡ 0) (by_
             left = h.left;
             all = ap (λ (l : List Step). s ∷ l) h.all;
             at = h.at;
-            plays = rw d.given (d.together, refl, d.done, h.plays);
+            plays = (place_after P c q s, d.together, d.given, d.done, h.plays);
             range = h.range;
             out = h.out;
           })
@@ -112,7 +112,7 @@ module _ (P : Plan) (c : Parts) (o : Sound P) (plain : plan_number P ≡ 0) (by_
   -- out of step the shown run gives no more
   nothing_more : (q : Place) → in_range P q.run ≡ true → is_out_of_step P q.run ≡ true → (n : ℕ) → shown_steps P n q ≡ []
   nothing_more q r e zero = refl
-  nothing_more q r e (suc n) = let g : given_of P q ≡ stays Finished q = by_parts q r ∙ given_stops P c q e in rw g
+  nothing_more q r e (suc n) = let g : given_of P q ≡ Ok None = by_parts q r ∙ ap Ok (given_stops P c q e) in rw g
 
   -- the first n steps of the shown run, up to its first out-of-step state
   pub shows : (q : Place) (steps : List Step) (m : Mark) (J : Run → Type 0) → Goes P q steps m J → (n : ℕ) → n ≤ length steps → shown_steps P n q ≡ take n (until_out P q.run steps)

@@ -8,9 +8,10 @@ use native.Mathlib.Nat.{zero-mod}
 use native.Mathlib.Omega.{arith}
 use lib.Dec.{eqb}
 use lib.ListN.{length, length-append}
+use Rattle.std.specs.Prelude.{None, Ok}
 use Rattle.plan.specs.declared.Plan.{Plan}
 use Rattle.plan.specs.Sending.{own}
-use Rattle.plan.specs.Tested.{plan_number, Sound}
+use Rattle.plan.specs.Tested.{plan_refusal, Sound}
 use Rattle.plan.proofs.Sound.{sound}
 use Rattle.run.specs.declared.Mode.{Mode}
 use Rattle.run.specs.declared.Mode.TheVariants.{Waiting, AboutToSend, Sending}
@@ -58,7 +59,7 @@ turns_is P c R r = go (node r c.sender.0).clock.0 (node r c.sender.0).slot.0 (no
     go k s AboutToSend e = e
     go k s Sending e = ends (eqb (k + P.tail.0 + 1) P.ticks.0)
 
-module _ {P : Plan} {c : Parts} (o : Sound P) (R : Roles P c) (F : Failure P c) (plain : plan_number P ≡ 0) (by_parts : (q : Place) → in_range P q.run ≡ true → given_of P q ≡ given_by P c q) where
+module _ {P : Plan} {c : Parts} (o : Sound P) (R : Roles P c) (F : Failure P c) (plain : plan_refusal P ≡ None) (by_parts : (q : Place) → in_range P q.run ≡ true → given_of P q ≡ Ok (given_by P c q)) where
   fresh_rest : Rest P c 0 fresh_run
   fresh_rest =
       record {

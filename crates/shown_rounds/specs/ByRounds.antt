@@ -1,9 +1,8 @@
 -- The claim: the shown run by places is the run by rounds and moments.
-use Rattle.std.specs.Prelude.{ℕ, ◌+◌, ◌*◌, ◌<◌, ◌≡◌, true, false, List, ◌++◌, length, take}
+use Rattle.std.specs.Prelude.{ℕ, ◌+◌, ◌*◌, ◌<◌, ◌≡◌, true, false, List, ◌++◌, None, Some, length, take}
 use Rattle.plan.specs.declared.Plan.{Plan}
-use Rattle.plan.specs.Tested.{plan_number}
+use Rattle.plan.specs.Tested.{plan_refusal}
 use Rattle.rules.specs.declared.Rule.{Rule}
-use Rattle.rules.specs.declared.Outcome.TheVariants.{Fails}
 use Rattle.rules.specs.Rules.{verdict_of}
 use Rattle.run.specs.declared.Step.{Step}
 use Rattle.run.specs.State.{fresh_run, node}
@@ -41,4 +40,4 @@ pub record ByRounds (P : Plan) (parts : Parts) : Type 0 where
 
 -- The claim: so for a plan that 1 to 9 let through and whose verdict names a failed rule, with that rule's parts.
 abbrev pub ShownByRounds : Plan → Type 0
-ShownByRounds P = plan_number P ≡ 0 → (rule : Rule) → (verdict_of P).outcome ≡ Fails rule → ByRounds P (parts_for P rule)
+ShownByRounds P = plan_refusal P ≡ None → (rule : Rule) → (verdict_of P).failed ≡ Some rule → ByRounds P (parts_for P rule)

@@ -5,7 +5,7 @@ use Rattle.run.specs.declared.Run.{Run}
 use Rattle.run.specs.declared.Step.{Step}
 use Rattle.run.specs.declared.Step.TheVariants.{Delay}
 use Rattle.run.specs.State.{is_out_of_step}
-use Rattle.run.specs.Steps.{step_of, run_after}
+use Rattle.run.specs.Steps.{run_left, run_after}
 use Rattle.shown.specs.declared.Parts.{Parts}
 use Rattle.shown.specs.Shown.{turns}
 use Rattle.shown_rounds.specs.Rounds.{ticks, ticks_and_sends, in_order}
@@ -36,4 +36,4 @@ moments P parts (suc k) y r = next_moment P parts r y ++ moments P parts k (y + 
 -- The steps up to the first out-of-step state.
 unfoldable pub until_out : Plan → Run → List Step → List Step
 until_out P r [] = []
-until_out P r (s ∷ steps) = cond (is_out_of_step P r) [] (s ∷ until_out P (step_of P r s).run steps)
+until_out P r (s ∷ steps) = cond (is_out_of_step P r) [] (s ∷ until_out P (run_left P r s) steps)

@@ -10,6 +10,8 @@ use native.Mathlib.Omega.{arith}
 use borrow.Author.Tests.{eq-eqb, ne_eqb}
 use lib.Dec.{eqb}
 use lib.ListN.{length}
+use Rattle.std.specs.Prelude.{Option, None, Some, Result, Ok}
+use Rattle.std.specs.Result.{result_unwrap_or}
 use Rattle.laws.specs.Below.{any_below}
 use Rattle.laws.proofs.Bools.{cond_by}
 use Rattle.laws.proofs.Same.{at_same}
@@ -17,13 +19,13 @@ use Rattle.laws.proofs.Belows.{any_found, any_never}
 use Rattle.laws.proofs.Sums.{sum_below, sum_same, sum_but_one, sum_within}
 use Rattle.plan.specs.declared.Plan.{Plan}
 use Rattle.plan.specs.declared.Time.{Time}
+use Rattle.plan.specs.declared.refusal.Refusal.{Refusal}
 use Rattle.plan.specs.Sending.{own}
-use Rattle.plan.specs.Tested.{plan_number, Sound}
+use Rattle.plan.specs.Tested.{plan_refusal, Sound}
 use Rattle.run.specs.declared.NodeState.{NodeState}
 use Rattle.run.specs.declared.Run.{Run}
 use Rattle.run.specs.declared.Step.{Step}
 use Rattle.run.specs.declared.Step.TheVariants.{Delay, TickOf, SendOf}
-use Rattle.run.specs.declared.Stepped.{Stepped}
 use Rattle.run.specs.State.{node, is_about, in_range, is_out_of_step}
 use Rattle.run.specs.Moves.{moved, node_ticked, ticked, delayed, sent}
 use Rattle.run.specs.Steps.{Legal, run_after}
@@ -36,8 +38,7 @@ use Rattle.shown.specs.declared.Mark.TheVariants.{Before, In, After}
 use Rattle.shown.specs.declared.Place.{Place}
 use Rattle.shown.specs.declared.Parts.{Parts}
 use Rattle.shown.specs.declared.Given.{Given}
-use Rattle.shown.specs.declared.Next.TheVariants.{Takes, Finished}
-use Rattle.shown.specs.Shown.{due_time, is_due, pivot_next, next_step, mark_after, place_after, stays, given_by, given_of, place_at, shown_steps}
+use Rattle.shown.specs.Shown.{due_time, is_due, pivot_next, next_step, mark_after, place_after, given_by, given_of, place_given, place_at, shown_steps}
 use Rattle.shows_why.specs.Ends.{ticks_in}
 use Rattle.shown.proofs.Play.{OnTime, DelayMove, Move, on_time, next_move, move_legal}
 use Rattle.shown.proofs.Roles.{Roles}
@@ -50,7 +51,7 @@ pub record EndsFrom (P : Plan) (q : Place) (n : ℕ) : Type 0 where
   pub legal : Legal P q.run (shown_steps P count q)
   pub reached : run_after P q.run (shown_steps P count q) ≡ (place_at P count q).run
   pub out : is_out_of_step P (place_at P count q).run ≡ true
-  pub finished : (given_of P (place_at P count q)).next ≡ Finished
+  pub finished : given_of P (place_at P count q) ≡ Ok None
   pub no_more : (more : ℕ) → shown_steps P (count + more) q ≡ shown_steps P count q
   pub few : ticks_in (shown_steps P count q) ≤ n
 
@@ -176,33 +177,33 @@ module _ (P : Plan) (parts : Parts) where
       let before = any_never P.nodes.0 (is_due P parts q) (λ i l. ne_eqb (node q.run i).time.0 (due_time P parts q.mark i) (omega (arith, m.early i l))) in
       rw (after, before) (omega arith)
 
-module _ (P : Plan) (parts : Parts) (S : Sound P) (plain : plan_number P ≡ 0) (by_parts : (q : Place) → in_range P q.run ≡ true → given_of P q ≡ given_by P parts q) where
+module _ (P : Plan) (parts : Parts) (S : Sound P) (plain : plan_refusal P ≡ None) (by_parts : (q : Place) → in_range P q.run ≡ true → given_of P q ≡ Ok (given_by P parts q)) where
   stop : (q : Place) (n : ℕ) → Kept P q.run → is_out_of_step P q.run ≡ true → EndsFrom P q n
   stop q n k e =
-      let given : given_of P q ≡ stays Finished q = by_parts q k.range ∙ given_stops P parts q e in
-      record { count = 0; exact = refl; legal = tt; reached = refl; out = e; finished = rw given; no_more = none given; few = omega arith }
+      let given : given_of P q ≡ Ok None = by_parts q k.range ∙ ap Ok (given_stops P parts q e) in
+      record { count = 0; exact = refl; legal = tt; reached = refl; out = e; finished = given; no_more = none given; few = omega arith }
     where
-      nothing : given_of P q ≡ stays Finished q → (more : ℕ) → shown_steps P more q ≡ []
+      nothing : given_of P q ≡ Ok None → (more : ℕ) → shown_steps P more q ≡ []
       nothing g zero = refl
       nothing g (suc more) = rw g
 
-      none : given_of P q ≡ stays Finished q → (more : ℕ) → shown_steps P (0 + more) q ≡ []
+      none : given_of P q ≡ Ok None → (more : ℕ) → shown_steps P (0 + more) q ≡ []
       none g more = rw zero-add (nothing g more)
 
   take : (q : Place) (s : Step) (n : ℕ) → OnTime P parts q → next_step P parts q ≡ s → StepLegal P q.run s → EndsFrom P (place_after P parts q s) n → EndsFrom P q (spent s n)
   take q s n t e l r =
       let number = step_legal P q.run s l in
-      let given : given_of P q ≡ record { next = Takes s; place = place_after P parts q s } = by_parts q l.range ∙ given_takes P parts q s e l.together (on_time P parts S q t) number in
+      let given : given_of P q ≡ Ok (Some (record { step = s; place = place_after P parts q s })) = by_parts q l.range ∙ ap Ok (given_takes P parts q s e l.together (on_time P parts S q t) number) in
       let done = step_done P q.run s plain number in
       let steps : shown_steps P (suc r.count) q ≡ s ∷ shown_steps P r.count (place_after P parts q s) = rw given in
-      let place : place_at P (suc r.count) q ≡ place_at P r.count (place_after P parts q s) = ap (λ (g : Given). place_at P r.count g.place) given in
+      let place : place_at P (suc r.count) q ≡ place_at P r.count (place_after P parts q s) = ap (λ (g : Result (Option Given) Refusal). place_at P r.count (place_given g q)) given in
       record {
         count = suc r.count;
         exact = rw given (ap suc r.exact);
         legal = rw (given, done) (refl, r.legal);
-        reached = ap (λ (l : List Step). run_after P q.run l) steps ∙ ap (λ (a : Stepped). run_after P a.run (shown_steps P r.count (place_after P parts q s))) done ∙ r.reached ∙ ap (λ (p : Place). p.run) (sym place);
+        reached = ap (λ (l : List Step). run_after P q.run l) steps ∙ ap (λ (a : Result Run Refusal). run_after P (result_unwrap_or a q.run) (shown_steps P r.count (place_after P parts q s))) done ∙ r.reached ∙ ap (λ (p : Place). p.run) (sym place);
         out = ap (λ (p : Place). is_out_of_step P p.run) place ∙ r.out;
-        finished = ap (λ (p : Place). (given_of P p).next) place ∙ r.finished;
+        finished = ap (given_of P) place ∙ r.finished;
         no_more = λ more. rw (suc-add, given) (ap (λ (l : List Step). s ∷ l) (r.no_more more));
         few = rw given (few_more s (shown_steps P r.count (place_after P parts q s)) n r.few);
       }

@@ -1,15 +1,13 @@
 -- Demand 3, second half: where the verdict names a failed rule, the shown run is legal, ends, and ends out of step.
-use Rattle.std.specs.Prelude.{ℕ, suc, ◌+◌, ◌*◌, ◌≤◌, ◌≡◌, true, List, [], ◌∷◌, length}
+use Rattle.std.specs.Prelude.{ℕ, suc, ◌+◌, ◌*◌, ◌≤◌, ◌≡◌, true, List, [], ◌∷◌, None, Some, Ok, length}
 use Rattle.plan.specs.declared.Plan.{Plan}
-use Rattle.plan.specs.Tested.{plan_number}
+use Rattle.plan.specs.Tested.{plan_refusal}
 use Rattle.rules.specs.declared.Rule.{Rule}
-use Rattle.rules.specs.declared.Outcome.TheVariants.{Fails}
 use Rattle.rules.specs.Rules.{verdict_of}
 use Rattle.run.specs.declared.Step.{Step}
 use Rattle.run.specs.declared.Step.TheVariants.{Delay, TickOf, SendOf}
 use Rattle.run.specs.State.{fresh_run, is_out_of_step}
 use Rattle.run.specs.Steps.{Legal, run_after}
-use Rattle.shown.specs.declared.Next.TheVariants.{Finished}
 use Rattle.shown.specs.Shown.{fresh_place, given_of, place_at, shown_steps}
 
 -- How many of the steps are ticks.
@@ -27,10 +25,10 @@ pub record Ends (P : Plan) : Type 0 where
   pub legal : Legal P fresh_run (shown_steps P count fresh_place)
   pub reached : run_after P fresh_run (shown_steps P count fresh_place) ≡ (place_at P count fresh_place).run
   pub out : is_out_of_step P (place_at P count fresh_place).run ≡ true
-  pub finished : (given_of P (place_at P count fresh_place)).next ≡ Finished
+  pub finished : given_of P (place_at P count fresh_place) ≡ Ok None
   pub no_more : (more : ℕ) → shown_steps P (count + more) fresh_place ≡ shown_steps P count fresh_place
   pub few : ticks_in (shown_steps P count fresh_place) ≤ 2 * P.nodes.0 * P.frame.0 * P.ticks.0
 
 -- The claim: a plan that 1 to 9 let through and whose verdict names a failed rule has a shown run that ends so.
 abbrev pub ShowsWhy : Plan → Type 0
-ShowsWhy P = plan_number P ≡ 0 → (rule : Rule) → (verdict_of P).outcome ≡ Fails rule → Ends P
+ShowsWhy P = plan_refusal P ≡ None → (rule : Rule) → (verdict_of P).failed ≡ Some rule → Ends P

@@ -3,7 +3,8 @@
 use Prim.Native.Nat.{ℕ, zero, suc, ◌+◌, ◌-◌, ◌≤◌, ◌<◌}
 use mathlib.Core.Path.{◌≡◌, refl, ap, ◌∙◌}
 use mathlib.Core.Bool.{Bool, true, false, cond, not, ◌&&◌, ◌||◌}
-use mathlib.Core.List.{List, foldl}
+use mathlib.Core.List.{List}
+use Rattle.std.specs.Prelude.{fold, Ok, Err, Result}
 use native.Mathlib.Decide.{ℕ_discrete}
 use native.Mathlib.Omega.{arith}
 use borrow.Author.Tests.{leb-true, eqb-true, eqb-false, le-leb, eq-eqb, ne_eqb}
@@ -12,12 +13,14 @@ use lib.ListN.{length, drop}
 use lib.Seq.{drop-cons, drop-length}
 use Rattle.laws.proofs.Bools.{clash, and_true_left, and_true_right, or_either, Either, first_holds, second_holds, cond_by, true_not_false}
 use Rattle.laws.proofs.Belows.{all_at, all_ever}
-use Rattle.plan.specs.Refusals.{line_wrong}
+use Rattle.plan.specs.declared.refusal.Refusal.TheVariants.{LineWrong}
 use Rattle.laws.specs.Bytes.{byte_at}
-use Rattle.letters.specs.Letters.{step_by}
+use Rattle.letters.specs.declared.Letter.{Letter as ALetter}
+use Rattle.letters.specs.declared.NoLetter.{NoLetter}
+use Rattle.letters.specs.Letters.{step_by, byte_of, letter_of}
+use Rattle.letters.proofs.Spelling.{byte_is_letter, letter_byte, no_letter}
 use Rattle.step_lines.specs.StepLine.{is_digit, line_letter, spelled, digit_count, line_shaped, line_of}
-use Rattle.step_lines.specs.Reading.{with_digit, may_follow, reading_after, reading_of, line_read}
-use Rattle.step_lines.specs.declared.Line.TheVariants.{Asks, Refused}
+use Rattle.step_lines.specs.Reading.{with_digit, may_follow, begun_by, reading_after, reading_of, line_read}
 use Rattle.step_lines.specs.declared.Reading.{Reading}
 use Rattle.step_lines.specs.declared.Reading.TheVariants.{Nothing, Letter, Blank, Number, Whole, Wrong}
 
@@ -104,11 +107,14 @@ module _ (line : List ℕ) where
   -- What is known of a line after its first n bytes.
   data Known (n : ℕ) : Reading → Type 0 where
     at_nothing : n ≡ 0 → Known n Nothing
-    at_letter : n ≡ 1 → line_letter (byte_at line 0) ≡ true → Known n (Letter (byte_at line 0))
-    at_blank : n ≡ 2 → line_letter (byte_at line 0) ≡ true → byte_at line 1 ≡ 32 → Known n (Blank (byte_at line 0))
-    at_number : (k : ℕ) → n ≡ 2 + k → Begun k → Known n (Number (byte_at line 0) (spelled line k))
-    at_whole : (k : ℕ) → n ≡ 3 + k → Begun k → byte_at line (2 + k) ≡ 10 → Known n (Whole (byte_at line 0) (spelled line k))
+    at_letter : (letter : ALetter) → n ≡ 1 → byte_of letter ≡ byte_at line 0 → Known n (Letter letter)
+    at_blank : (letter : ALetter) → n ≡ 2 → byte_of letter ≡ byte_at line 0 → byte_at line 1 ≡ 32 → Known n (Blank letter)
+    at_number : (letter : ALetter) (k : ℕ) → n ≡ 2 + k → byte_of letter ≡ byte_at line 0 → Begun k → Known n (Number (record { letter = letter; number = spelled line k }))
+    at_whole : (letter : ALetter) (k : ℕ) → n ≡ 3 + k → byte_of letter ≡ byte_at line 0 → Begun k → byte_at line (2 + k) ≡ 10 → Known n (Whole (record { letter = letter; number = spelled line k }))
     at_wrong : (Good → ⊥) → Known n Wrong
+
+  is_letter_of : (letter : ALetter) → byte_of letter ≡ byte_at line 0 → line_letter (byte_at line 0) ≡ true
+  is_letter_of letter same = rw (← same) (byte_is_letter letter)
 
   -- a byte of a step line after the blank and before the newline
   before_newline : (k : ℕ) → Good → 2 + k < length line → (byte_at line (2 + k) ≡ 10 → ⊥) → k < digit_count line
@@ -161,41 +167,42 @@ module _ (line : List ℕ) where
 
   known_more : (n : ℕ) (r : Reading) → Known n r → n < length line → Known (suc n) (reading_after r (byte_at line n))
   unfolding reading_after spelled
-  known_more n r (at_nothing e) h =
-      rw e (cond_by (Known 1) (line_letter (byte_at line 0)) (Letter (byte_at line 0)) Wrong
-      (λ t. at_letter refl t)
-      (λ f. at_wrong (λ g. clash (line_letter (byte_at line 0)) g.begun.letter f)))
-  known_more n r (at_letter e letter) h =
-      rw e (cond_by (Known 2) (eqb (byte_at line 1) 32) (Blank (byte_at line 0)) Wrong
-      (λ t. at_blank refl letter (eqb-true _ 32 t))
+  known_more n r (at_nothing e) h = rw e (go (letter_of (byte_at line 0)) refl)
+    where
+      go : (read : Result ALetter NoLetter) → letter_of (byte_at line 0) ≡ read → Known 1 (begun_by read)
+      go (Ok letter) t = at_letter letter refl (letter_byte (byte_at line 0) t)
+      go (Err none) f = at_wrong (λ g. clash (line_letter (byte_at line 0)) g.begun.letter (no_letter (byte_at line 0) f))
+  known_more n r (at_letter letter e same) h =
+      rw e (cond_by (Known 2) (eqb (byte_at line 1) 32) (Blank letter) Wrong
+      (λ t. at_blank letter refl same (eqb-true _ 32 t))
       (λ f. at_wrong (λ g. eqb-false _ 32 f g.begun.blank)))
-  known_more n r (at_blank e letter blank) h =
+  known_more n r (at_blank letter e same blank) h =
       let one : byte_at line 2 - 48 ≡ spelled line 1 = omega arith in
-      rw (e, one) (cond_by (Known 3) (is_digit (byte_at line 2)) (Number (byte_at line 0) (spelled line 1)) Wrong
-      (λ t. at_number 1 refl (begun_one letter blank t))
+      rw (e, one) (cond_by (Known 3) (is_digit (byte_at line 2)) (Number (record { letter = letter; number = spelled line 1 })) Wrong
+      (λ t. at_number letter 1 refl same (begun_one (is_letter_of letter same) blank t))
       (λ f. at_wrong (λ g. clash (is_digit (byte_at line 2)) (g.begun.digits 0 (omega (arith, g.long))) f)))
-  known_more n r (at_number k e b) h =
+  known_more n r (at_number letter k e same b) h =
       let v = spelled line k in
       let byte = byte_at line (2 + k) in
-      rw e (cond_by (Known (suc (2 + k))) (eqb byte 10) (Whole (byte_at line 0) v) (cond (may_follow v byte) (Number (byte_at line 0) (with_digit v byte)) Wrong)
-      (λ t. at_whole k (omega arith) b (eqb-true _ 10 t))
-      (λ other. cond_by (Known (suc (2 + k))) (may_follow v byte) (Number (byte_at line 0) (with_digit v byte)) Wrong
-      (λ t. at_number (suc k) (omega arith) (begun_more k b t))
+      rw e (cond_by (Known (suc (2 + k))) (eqb byte 10) (Whole (record { letter = letter; number = v })) (cond (may_follow v byte) (Number (record { letter = letter; number = with_digit v byte })) Wrong)
+      (λ t. at_whole letter k (omega arith) same b (eqb-true _ 10 t))
+      (λ other. cond_by (Known (suc (2 + k))) (may_follow v byte) (Number (record { letter = letter; number = with_digit v byte })) Wrong
+      (λ t. at_number letter (suc k) (omega arith) same (begun_more k b t))
       (λ f. at_wrong (λ g. clash _ (digit_good k b g (before_newline k g (omega arith) (eqb-false byte 10 other))) f))))
-  known_more n r (at_whole k e b newline) h =
+  known_more n r (at_whole letter k e same b newline) h =
       at_wrong (λ g. clash (is_digit (byte_at line (2 + k))) (g.begun.digits k (omega arith)) (ap is_digit newline))
   known_more n r (at_wrong never) h = at_wrong never
 
   -- a line that is no step line, and one that is
-  not_good_refused : (Good → ⊥) → line_of line ≡ Refused line_wrong
+  not_good_refused : (Good → ⊥) → line_of line ≡ Err LineWrong
   unfolding good_test line_of
   not_good_refused never = go (good_test) refl
     where
-      go : (t : Bool) → good_test ≡ t → line_of line ≡ Refused line_wrong
+      go : (t : Bool) → good_test ≡ t → line_of line ≡ Err LineWrong
       go true e = absurd (never (test_good e))
       go false e = rw e
 
-  good_asked : Good → line_of line ≡ Asks (step_by (byte_at line 0) (spelled line (digit_count line)))
+  good_asked : Good → line_of line ≡ Ok (step_by (byte_at line 0) (spelled line (digit_count line)))
   unfolding good_test line_of
   good_asked g = rw (test_is_good g)
 
@@ -203,18 +210,18 @@ module _ (line : List ℕ) where
   known_end : (r : Reading) → Known (length line) r → line_of line ≡ line_read r
   unfolding line_read
   known_end r (at_nothing e) = not_good_refused (λ g. omega (arith, g.long))
-  known_end r (at_letter e letter) = not_good_refused (λ g. omega (arith, g.long))
-  known_end r (at_blank e letter blank) = not_good_refused (λ g. omega (arith, g.long))
-  known_end r (at_number k e b) =
+  known_end r (at_letter letter e same) = not_good_refused (λ g. omega (arith, g.long))
+  known_end r (at_blank letter e same blank) = not_good_refused (λ g. omega (arith, g.long))
+  known_end r (at_number letter k e same b) =
       let last : 2 + (k - 1) ≡ length line - 1 = omega (arith, b.some) in
       not_good_refused (λ g. clash (is_digit (byte_at line (2 + (k - 1)))) (b.digits (k - 1) (omega (arith, b.some))) (rw (last, g.newline)))
-  known_end r (at_whole k e b newline) =
+  known_end r (at_whole letter k e same b newline) =
       let count : digit_count line ≡ k = omega arith in
       let last : length line - 1 ≡ 2 + k = omega arith in
-      good_asked (record { long = omega (arith, b.some); begun = rw count b; newline = rw last newline }) ∙ rw count
+      good_asked (record { long = omega (arith, b.some); begun = rw count b; newline = rw last newline }) ∙ rw (count, same)
   known_end r (at_wrong never) = not_good_refused never
 
-  known_on : (left n : ℕ) (r : Reading) → n + left ≡ length line → Known n r → Known (length line) (foldl reading_after r (drop n line))
+  known_on : (left n : ℕ) (r : Reading) → n + left ≡ length line → Known n r → Known (length line) (fold reading_after r (drop n line))
   known_on zero n r e known = let q : n ≡ length line = omega arith in rw (q, drop-length) (rw q at known)
   known_on (suc left) n r e known = rw (drop-cons line n 0 (omega arith)) (known_on left (suc n) (reading_after r (byte_at line n)) (omega arith) (known_more n r known (omega arith)))
 

@@ -1,12 +1,12 @@
 -- A step line read: a step, or refusal 19.
-use Rattle.std.specs.Prelude.{ℕ, zero, suc, ◌+◌, ◌*◌, ◌-◌, Bool, cond, not, ◌&&◌, ◌||◌, List, length, eqb, leb}
+use Rattle.std.specs.Prelude.{ℕ, zero, suc, ◌+◌, ◌*◌, ◌-◌, Bool, cond, not, ◌&&◌, ◌||◌, List, length, eqb, leb, Result, Ok, Err}
 use Rattle.laws.specs.Bytes.{byte_at}
 use Rattle.laws.specs.Below.{all_below}
-use Rattle.plan.specs.Refusals.{line_wrong}
+use Rattle.plan.specs.declared.refusal.Refusal.{Refusal}
+use Rattle.plan.specs.declared.refusal.Refusal.TheVariants.{LineWrong}
+use Rattle.run.specs.declared.Step.{Step}
 unfoldable pub use Rattle.letters.specs.Letters.{is_letter}
 pub use Rattle.letters.specs.Letters.{step_by}
-use Rattle.step_lines.specs.declared.Line.{Line}
-use Rattle.step_lines.specs.declared.Line.TheVariants.{Asks, Refused}
 
 -- A decimal digit.
 abbrev pub is_digit : ℕ → Bool
@@ -37,8 +37,8 @@ line_shaped line =
     && (eqb (digit_count line) 1 || not (eqb (byte_at line 2) 48))
 
 -- What a line asks for: 19 for another shape, or a number above 4,294,967,295.
-unfoldable pub line_of : List ℕ → Line
+unfoldable pub line_of : List ℕ → Result Step Refusal
 line_of line =
     cond (line_shaped line && leb (spelled line (digit_count line)) 4294967295)
-    (Asks (step_by (byte_at line 0) (spelled line (digit_count line))))
-    (Refused line_wrong)
+    (Ok (step_by (byte_at line 0) (spelled line (digit_count line))))
+    (Err LineWrong)

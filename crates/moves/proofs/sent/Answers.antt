@@ -1,11 +1,11 @@
-use Rattle.std.proofs.Common.{◌≡◌, arith, length, rules}
-use Rattle.moves.proofs.Changes.{changed_none, changed_more}
+use Rattle.std.proofs.Common.{rules, take, Some}
+use Rattle.laws.proofs.Overs.{over_more, over_end}
+use Rattle.run.specs.State.{node, fresh_node}
 use Rattle.moves.proofs.sent.Goals as goal
 
-pub loop-k-init : goal.loop-k-init
-loop-k-init c = changed_none _ _
-
 pub loop-k-preserved : goal.loop-k-preserved
-loop-k-preserved c =
-    let room : length c.args.run.nodes ≡ 32 = search rules in
-    changed_more _ c.args.run c.loop-k.k c.loop-k.next c.node_at_send.result (omega arith) c.loop-k.invariant c.node_at_send.ensures
+loop-k-preserved c = over_more c.loop-k.k _ (take c.args.plan.plan.nodes.0 c.args.run.nodes) _ fresh_node _ (search rules) c.loop-k.invariant (search rules)
+
+pub returns : goal.returns
+returns c =
+    λ j. record { nodes = over_end c.args.plan.plan.nodes.0 c.loop-k.k _ c.args.run.nodes _ (search rules) c.loop-k.invariant j; last = Some (node c.args.run c.args.i.0).slot }

@@ -1,9 +1,11 @@
-use Rattle.std.proofs.Common.{◌≡◌, true, sym, arith}
-use Rattle.laws.proofs.Belows.{any_found}
-use Rattle.run.specs.State.{node, is_about}
+use Rattle.std.proofs.Common.{rules}
+use Rattle.std.proofs.lemmas.Iterator.{YieldsList-from_slice}
+use Rattle.laws.proofs.Chains.{any_in}
+use Rattle.run.specs.declared.NodeState.{NodeState}
+use Rattle.run.specs.State.{fresh_node, is_about}
 use Rattle.steps.proofs.some_about.Goals as goal
 
-pub returns-then-is_about : goal.returns-then-is_about
-returns-then-is_about c =
-    let about : is_about (node c.args.run c.loop-i.i).mode ≡ true = cc in
-    sym (any_found c.args.plan.nodes.0 c.loop-i.i (λ k. is_about (node c.args.run k).mode) (omega arith) about)
+pub returns : goal.returns
+returns c =
+    any_in (λ (a : NodeState). is_about a.mode) c.args.run.run.nodes c.args.run.plan.plan.nodes.0 fresh_node _ _ (search rules) c.any.ensures.ran
+    (YieldsList-from_slice _ cc) (λ x b q k. search rules)
