@@ -2,28 +2,25 @@
 #![tactic(auto)]
 
 ghost use Rattle.std.specs.Prelude.{◌≡◌};
-ghost use Rattle.run.specs.Steps.{step_of};
+ghost use Rattle.std.specs.Result.{result_err};
+ghost use Rattle.run.specs.Steps.{step_of, run_left};
 
-use plan::Plan;
-use run::{Answer, Run, Step, Stepped};
+use plan::{Plan, Refusal};
+use run::{Run, Step};
 
 // A step on the run that is lent: where it is refused, the run stays as it was.
-pub fn step_in_place(run: &mut Run, plan: Plan, step: Step) -> Answer
-    ensures { (result ≡ (step_of plan run.old step).answer) × (run.new ≡ (step_of plan run.old step).run) }
+pub fn step_in_place(run: &mut Run, plan: Plan, step: Step) -> Result<(), Refusal>
+    ensures { (result_err result ≡ result_err (step_of plan run.old step)) × (run.new ≡ run_left plan run.old step) }
 {
-    let done = steps::step(plan, *run, step);
-    *run = done.run;
-    done.answer
+    *run = steps::step(plan, *run, step)?;
+    Ok(())
 }
 
 // A step at the desk: the run is kept here and moved on in place.
-pub fn step_at_desk(run: Run, plan: Plan, step: Step) -> Stepped
-    ensures { result ≡ step_of plan run step }
+pub fn step_at_desk(run: Run, plan: Plan, step: Step) -> (Result<(), Refusal>, Run)
+    ensures { (result_err result.0 ≡ result_err (step_of plan run step)) × (result.1 ≡ run_left plan run step) }
 {
     let mut desk = run;
     let answer = step_in_place(&mut desk, plan, step);
-    Stepped {
-        answer: answer,
-        run: desk,
-    }
+    (answer, desk)
 }

@@ -6,16 +6,16 @@ use mathlib.Core.Logic.{◌≢◌}
 use mathlib.Core.Bool.{Bool, true, false, cond}
 use lib.ListN.{length}
 use lib.Dec.{eqb}
+use Rattle.std.specs.Prelude.{Option, None, Some}
 use Rattle.laws.specs.Ring.{distance}
 use Rattle.plan.specs.declared.Plan.{Plan}
+use Rattle.plan.specs.declared.Slot.{Slot}
 use Rattle.plan.specs.Sending.{own}
 use Rattle.plan.proofs.Sound.{Sender}
 use Rattle.gap.proofs.Facts.{slots_to_next, NextAt}
 use Rattle.rules.proofs.Distances.{Rule1, Rule2, Rule3}
 use Rattle.run.specs.declared.Mode.{Mode}
 use Rattle.run.specs.declared.Mode.TheVariants.{Waiting, AboutToSend, Sending}
-use Rattle.run.specs.declared.Last.{Last}
-use Rattle.run.specs.declared.Last.TheVariants.{At, Nothing}
 use Rattle.run.specs.declared.NodeState.{NodeState}
 use Rattle.run.specs.declared.Run.{Run}
 use Rattle.run.specs.State.{node}
@@ -36,8 +36,8 @@ pub record Phase : Type 0 where
   -- what rule 2 takes away besides g
   pub z : ℕ
 
-abbrev pub phase_of : Plan → Last → Phase
-phase_of P (At q) =
+abbrev pub phase_of : Plan → Option Slot → Phase
+phase_of P (Some q) =
     record {
       p = q.0;
       o = P.guard.0;
@@ -45,7 +45,7 @@ phase_of P (At q) =
       lead = λ w. cond (eqb w q.0) P.guard.0 (P.guard.0 + 1);
       z = 2;
     }
-phase_of P Nothing =
+phase_of P None =
     record {
       p = P.frame.0 - 1;
       o = P.ticks.0;
@@ -110,9 +110,9 @@ abbrev pub Short : Plan → Phase → ℕ → NodeState → Type 0
 Short P f d a = ticks_of P f a + 1 < d * P.ticks.0 + P.ticks.0
 
 -- The last message's slot is some node's own.
-abbrev pub Sent : Plan → Last → Type 0
-Sent P (At q) = Sender P q.0
-Sent P Nothing = Unit {0}
+abbrev pub Sent : Plan → Option Slot → Type 0
+Sent P (Some q) = Sender P q.0
+Sent P None = Unit {0}
 
 pub record Inv (P : Plan) (r : Run) (y : ℕ) : Type 0 where
   pub room : P.nodes.0 ≤ length r.nodes

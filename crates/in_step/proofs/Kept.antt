@@ -5,20 +5,20 @@ use mathlib.Core.Logic.{◌≢◌}
 use mathlib.Core.Bool.{false}
 use mathlib.Core.List.{List, [], ◌∷◌}
 use native.Mathlib.Omega.{arith}
+use Rattle.std.specs.Prelude.{None, Some}
 use Rattle.laws.proofs.Digits.{slots_some}
 use Rattle.laws.proofs.Ring.{end_to_start}
 use Rattle.plan.specs.declared.Plan.{Plan}
 use Rattle.plan.specs.Sending.{own}
-use Rattle.plan.specs.Tested.{plan_number, Sound}
+use Rattle.plan.specs.Tested.{plan_refusal, Sound}
 use Rattle.plan.proofs.Sound.{own_in_frame}
 use Rattle.rules.proofs.Distances.{RulesHold}
-use Rattle.run.specs.declared.Last.TheVariants.{At, Nothing}
 use Rattle.run.specs.declared.Run.{Run}
 use Rattle.run.specs.declared.Step.{Step}
 use Rattle.run.specs.declared.Step.TheVariants.{Delay, TickOf, SendOf}
 use Rattle.run.specs.State.{node, fresh_run}
 use Rattle.run.specs.Moves.{node_hearing, delayed, ticked, sent}
-use Rattle.run.specs.Steps.{step_of, Legal, run_after}
+use Rattle.run.specs.Steps.{Legal, run_after}
 use Rattle.run.specs.Reckoning.{ticks_from, time_since}
 use Rattle.run.proofs.Nodes.{room_fresh, node_fresh, room_moved}
 use Rattle.run.proofs.EveryNode.{all_delayed, all_ticked, all_sent}
@@ -71,7 +71,7 @@ module _ (P : Plan) (S : Sound P) (A : RulesHold P) where
       f = phase_of P r.last
 
       f' : Phase
-      f' = phase_of P (At (node r i).slot)
+      f' = phase_of P (Some (node r i).slot)
 
       H : Holds P f
       H = (due_of P S A r.last v.sent).holds
@@ -99,7 +99,7 @@ module _ (P : Plan) (S : Sound P) (A : RulesHold P) where
   unfolding fresh_run
   inv_fresh =
       let u : ticks_from P (P.frame.0 - 1) 0 0 ≡ P.ticks.0 = rw (end_to_start P.frame.0 (omega (arith, S.frame_low))) (omega arith) in
-      let some = slots_some (phase_of P Nothing).D P.ticks.0 (due_of P S A Nothing tt).next.one in
+      let some = slots_some (phase_of P None).D P.ticks.0 (due_of P S A None tt).next.one in
       record {
         room = rw room_fresh S.nodes_high;
         sent = tt;
@@ -112,14 +112,14 @@ module _ (P : Plan) (S : Sound P) (A : RulesHold P) where
             });
       }
 
-  pub inv_steps : plan_number P ≡ 0 → (steps : List Step) (r : Run) (y : ℕ) → Inv P r y → Legal P r steps → Inv P (run_after P r steps) (time_since y steps)
+  pub inv_steps : plan_refusal P ≡ None → (steps : List Step) (r : Run) (y : ℕ) → Inv P r y → Legal P r steps → Inv P (run_after P r steps) (time_since y steps)
   inv_steps e [] r y v l = v
   inv_steps e (Delay d ∷ steps) r y v l =
-      let done = done_step P r (Delay d) e l.0 in
-      inv_steps e steps (step_of P r (Delay d)).run (y + d.0) (rw done.leads (inv_delay r y d.0 v (legal_step P r (Delay d) done.number).kind)) l.1
+      let legal = legal_step P r (Delay d) (done_step P r (Delay d) _ e l.0).refusal in
+      rw l.0 (inv_steps e steps (delayed P d.0 r) (y + d.0) (inv_delay r y d.0 v legal.kind) l.1)
   inv_steps e (TickOf i ∷ steps) r y v l =
-      let done = done_step P r (TickOf i) e l.0 in
-      inv_steps e steps (step_of P r (TickOf i)).run y (rw done.leads (inv_tick r y i.0 v (legal_step P r (TickOf i) done.number).kind)) l.1
+      let legal = legal_step P r (TickOf i) (done_step P r (TickOf i) _ e l.0).refusal in
+      rw l.0 (inv_steps e steps (ticked P i.0 r) y (inv_tick r y i.0 v legal.kind) l.1)
   inv_steps e (SendOf i ∷ steps) r y v l =
-      let done = done_step P r (SendOf i) e l.0 in
-      inv_steps e steps (step_of P r (SendOf i)).run 0 (rw done.leads (inv_send r y i.0 v (legal_step P r (SendOf i) done.number).kind)) l.1
+      let legal = legal_step P r (SendOf i) (done_step P r (SendOf i) _ e l.0).refusal in
+      rw l.0 (inv_steps e steps (sent P i.0 r) 0 (inv_send r y i.0 v legal.kind) l.1)

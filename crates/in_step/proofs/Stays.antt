@@ -5,25 +5,24 @@ use mathlib.Core.Bool.{Bool, true, false, not, ◌&&◌}
 use mathlib.Core.List.{[], ◌∷◌}
 use borrow.Author.Tests.{lt-ltb, lt-leb, eq-eqb}
 use lib.Dec.{leb}
+use Rattle.std.specs.Prelude.{Option, None, Some, Ok}
 use Rattle.laws.specs.Row.{given}
 use Rattle.laws.specs.Below.{any_below}
 use Rattle.laws.proofs.Bools.{clash}
 use Rattle.laws.proofs.Belows.{any_never}
 use Rattle.laws.proofs.Rows.{off_all}
 use Rattle.plan.specs.declared.Plan.{Plan}
-use Rattle.plan.specs.Refusals.{run_outside, node_unknown, reckoning_below_0}
-use Rattle.plan.specs.Tested.{plan_number, Sound}
+use Rattle.plan.specs.declared.Slot.{Slot}
+use Rattle.plan.specs.declared.refusal.Refusal.TheVariants.{RunOutside, NodeUnknown, ReckoningBelow0}
+use Rattle.plan.specs.Tested.{plan_refusal, Sound}
 use Rattle.plan.proofs.Sound.{sound, own_in_frame}
 use Rattle.rules.proofs.Distances.{RulesHold, rules_hold}
 use Rattle.run.specs.declared.Mode.{Mode}
-use Rattle.run.specs.declared.Last.{Last}
-use Rattle.run.specs.declared.Last.TheVariants.{At, Nothing}
 use Rattle.run.specs.declared.NodeState.{NodeState}
 use Rattle.run.specs.declared.Run.{Run}
-use Rattle.run.specs.declared.Reckoned.TheVariants.{Ticks}
 use Rattle.run.specs.State.{node, fresh_run, is_sending, in_range, last_in_range, elsewhere, sends_apart, is_out_of_step}
 use Rattle.run.specs.Steps.{run_after}
-use Rattle.run.specs.Reckoning.{time_since, reckoning, below_zero, reckoning_number, reckoned_tested, reckoned_of}
+use Rattle.run.specs.Reckoning.{time_since, reckoning, below_zero, reckoning_refusal, reckoned_tested, reckoned_of}
 use Rattle.run.proofs.Ranges.{nodes_range}
 use Rattle.in_step.specs.InStep.{Reckons, StaysInStep}
 use Rattle.in_step.proofs.Invariant.{Phase, IfSending, Case, hears, waits, about, sends, InPhase, Sent, Inv}
@@ -60,21 +59,21 @@ module _ (P : Plan) (S : Sound P) (A : RulesHold P) (r : Run) (y : ℕ) (v : Inv
   pub is_in_range : in_range P r ≡ true
   is_in_range = nodes_range P r (λ i h. (v.good i h).range) (last_holds r.last v.sent)
     where
-      last_holds : (l : Last) → Sent P l → last_in_range P l ≡ true
-      last_holds (At q) h = lt-ltb q.0 P.frame.0 (rw h.slot at (own_in_frame P S h.by h.below))
-      last_holds Nothing h = refl
+      last_holds : (l : Option Slot) → Sent P l → last_in_range P l ≡ true
+      last_holds (Some q) h = lt-ltb q.0 P.frame.0 (rw h.slot at (own_in_frame P S h.by h.below))
+      last_holds None h = refl
 
   pub counts : (i : ℕ) → i < P.nodes.0 → Counts P r.last y (node r i)
   counts i h = counts_of S A r.last v.sent (short_of P S A r y v i h) (v.good i h)
 
-  pub answered : plan_number P ≡ 0 → (i : ℕ) → i < P.nodes.0 → reckoned_of P r i ≡ Ticks (reckoning P r.last (node r i))
-  unfolding reckoned_of reckoned_tested reckoning_number
+  pub answered : plan_refusal P ≡ None → (i : ℕ) → i < P.nodes.0 → reckoned_of P r i ≡ Ok (record { 0 = reckoning P r.last (node r i) })
+  unfolding reckoned_of reckoned_tested reckoning_refusal
   answered e i h =
-      let rows = off_all (given run_outside (not (in_range P r)) ∷ given node_unknown (leb P.nodes.0 i) ∷ given reckoning_below_0 (below_zero P r.last (node r i)) ∷ [])
+      let rows = off_all (given RunOutside (not (in_range P r)) ∷ given NodeUnknown (leb P.nodes.0 i) ∷ given ReckoningBelow0 (below_zero P r.last (node r i)) ∷ [])
       (ap not is_in_range, (lt-leb P.nodes.0 i h, ((counts i h).whole, tt))) in
-      rw (eq-eqb (plan_number P) 0 e, eq-eqb (reckoning_number P r i) 0 rows)
+      rw (e, rows)
 
-  pub reckons : plan_number P ≡ 0 → (i : ℕ) → i < P.nodes.0 → Reckons P r y i
+  pub reckons : plan_refusal P ≡ None → (i : ℕ) → i < P.nodes.0 → Reckons P r y i
   reckons e i h =
       let n = counts i h in
       record { c = reckoning P r.last (node r i); answered = answered e i h; most = n.most; least = n.least }

@@ -1,12 +1,10 @@
 -- Demand 3, first half: what holds after any legal steps of an accepted plan.
-use Rattle.std.specs.Prelude.{ℕ, ◌+◌, ◌*◌, ◌-◌, ◌≤◌, ◌<◌, ◌≡◌, ◌≢◌, true, false, List}
+use Rattle.std.specs.Prelude.{ℕ, ◌+◌, ◌*◌, ◌-◌, ◌≤◌, ◌<◌, ◌≡◌, ◌≢◌, true, false, List, None, Ok}
 use Rattle.plan.specs.declared.Plan.{Plan}
-use Rattle.plan.specs.Tested.{plan_number}
-use Rattle.rules.specs.declared.Outcome.TheVariants.{Accepted}
+use Rattle.plan.specs.Tested.{plan_refusal}
 use Rattle.rules.specs.Rules.{verdict_of}
 use Rattle.run.specs.declared.Run.{Run}
 use Rattle.run.specs.declared.Step.{Step}
-use Rattle.run.specs.declared.Reckoned.TheVariants.{Ticks}
 use Rattle.run.specs.State.{fresh_run, node, is_sending, is_out_of_step}
 use Rattle.run.specs.Steps.{Legal, run_after}
 use Rattle.run.specs.Reckoning.{reckoned_of, time_since}
@@ -14,7 +12,7 @@ use Rattle.run.specs.Reckoning.{reckoned_of, time_since}
 -- Node i's reckoning is answered, by c, and bounds the real time y since the last message (or start) from both sides.
 pub record Reckons (P : Plan) (r : Run) (y i : ℕ) : Type 0 where
   pub c : ℕ
-  pub answered : reckoned_of P r i ≡ Ticks c
+  pub answered : reckoned_of P r i ≡ Ok (record { 0 = c })
   pub most : y ≤ c * P.max.0 + (node r i).time.0
   pub least : c ≢ 0 → (c - 1) * P.min.0 + (node r i).time.0 ≤ y
 
@@ -27,8 +25,8 @@ pub record InStep (P : Plan) (r : Run) (y : ℕ) : Type 0 where
 -- The claim: a plan that 1 to 9 let through and the verdict accepts is in step after any legal steps from a fresh run.
 abbrev pub StaysInStep : Plan → Type 0
 StaysInStep P =
-    plan_number P ≡ 0
-    → (verdict_of P).outcome ≡ Accepted
+    plan_refusal P ≡ None
+    → (verdict_of P).failed ≡ None
     → (steps : List Step)
     → Legal P fresh_run steps
     → InStep P (run_after P fresh_run steps) (time_since 0 steps)
