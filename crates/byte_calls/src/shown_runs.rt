@@ -24,6 +24,6 @@ pub fn next_on(plan: TestedPlan, place: &mut [u8], step: &mut [u8]) -> Result<()
         return Err(Unanswered::Finished);
     };
     write_place(place, nodes, next.place);
-    put(step, 0, step_form(next.step));
+    put(step, 0, &step_form(next.step));
     Ok(())
 }
