@@ -1,13 +1,14 @@
 -- What each call answers, by its tests in their order, of a plan that passed 1 to 9 with every lent buffer of the right length, and
 -- what it writes where it is answered.
-use Rattle.std.specs.Prelude.{ℕ, Bool, cond, not, ◌||◌, List, length, Option, Result, Ok, Err}
+use Rattle.std.specs.Prelude.{ℕ, Bool, cond, List, length, Option, Result, Ok, Err}
+use Rattle.laws.specs.Row.{unless}
 use Rattle.plan.specs.declared.Plan.{Plan}
 use Rattle.plan.specs.declared.refusal.Refusal.{Refusal}
 use Rattle.plan.specs.declared.refusal.Refusal.TheVariants.{RunOutside}
 use Rattle.run.specs.declared.Apart.{Apart}
 use Rattle.run.specs.declared.Run.{Run}
 use Rattle.run.specs.declared.Ticks.{Ticks}
-use Rattle.run.specs.State.{in_range, apart_tested}
+use Rattle.run.specs.State.{range_refusal, apart_tested}
 use Rattle.run.specs.Steps.{step_tested}
 use Rattle.run.specs.Reckoning.{reckoned_tested}
 use Rattle.shown.specs.declared.Given.{Given}
@@ -36,16 +37,12 @@ run_put P before r = run_bytes P.nodes.0 r before
 abbrev pub run_wrong : Plan → List ℕ → Bool
 run_wrong P bytes = spells_no_run P.nodes.0 bytes
 
--- Refusal 10 of a run in bytes.
-unfoldable pub is_run_outside : Plan → List ℕ → Bool
-is_run_outside P bytes = run_wrong P bytes || not (in_range P (run_for P bytes))
-
--- The run in bytes, for a call that makes the other tests; and where nothing but the run can speak against it.
+-- The run in bytes: 10 where they spell none. And where nothing but the run can speak against the call: 10 also by its ranges.
 unfoldable pub run_spelt : Plan → List ℕ → Result Run Refusal
 run_spelt P bytes = cond (run_wrong P bytes) (Err RunOutside) (Ok (run_for P bytes))
 
 unfoldable pub run_inside : Plan → List ℕ → Result Run Refusal
-run_inside P bytes = cond (is_run_outside P bytes) (Err RunOutside) (Ok (run_for P bytes))
+run_inside P bytes = and_then (run_spelt P bytes) (λ r. unless (range_refusal P r) (Ok r))
 
 -- One step on a run: 19, 10, then what a step of this plan answers.
 unfoldable pub step_asked : Plan → List ℕ → (letter n : ℕ) → Result Run Refusal

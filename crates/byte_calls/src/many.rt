@@ -13,6 +13,7 @@ use run_bytes::write_run;
 use steps::step_in_range;
 
 // A step by its letter and number. The run after it is in range again.
+#[tactic(auto, unfolding(crate::specs::Many::asked_of))]
 fn step_asked(run: TestedRun, letter: u8, number: u32) -> Result<TestedRun, Refusal>
     ensures refusal { result_err result ≡ result_err (asked_of run.plan.plan run.run letter number) }
     ensures moved { IfOk result (λ next. (next.plan.plan ≡ run.plan.plan) × (Ok next.run ≡ asked_of run.plan.plan run.run letter number)) }
@@ -41,6 +42,7 @@ fn steps_taken(run: TestedRun, steps: &[u8], answers: &mut [u8]) -> TestedRun
 }
 
 // Many steps on the run in bytes, of a plan that passed 1 to 9, with every buffer of the right length.
+#[tactic(auto, unfolding(crate::specs::TestsAndWrites::steps_asked))]
 pub fn steps_on(
     plan: TestedPlan,
     run: &mut [u8],

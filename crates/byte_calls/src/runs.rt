@@ -14,6 +14,7 @@ use run_bytes::{put, read_run, spells_no_run, write_run};
 use steps::step_tested;
 
 // The run in bytes; refusal 10 where they spell none.
+#[tactic(auto, unfolding(crate::specs::TestsAndWrites::run_spelt))]
 fn run_spelt(plan: TestedPlan, run: &[u8]) -> Result<Run, Refusal>
     requires { length run.now ≡ 291 }
     ensures { result ≡ run_spelt plan.plan run.now }
@@ -34,6 +35,7 @@ pub fn run_tested(plan: TestedPlan, run: &[u8]) -> Result<TestedRun, Refusal>
     run_spelt(plan, run)?.tested(plan)
 }
 
+#[tactic(auto, unfolding(crate::specs::TestsAndWrites::step_asked))]
 pub fn step_on(plan: TestedPlan, run: &mut [u8], letter: u8, number: u32) -> Result<(), Refusal>
     requires { length run.old ≡ 291 }
     ensures value { result_err result ≡ result_err (step_asked plan.plan run.old letter number) }
@@ -46,6 +48,7 @@ pub fn step_on(plan: TestedPlan, run: &mut [u8], letter: u8, number: u32) -> Res
     Ok(())
 }
 
+#[tactic(auto, unfolding(crate::specs::TestsAndWrites::apart_asked))]
 pub fn apart_on(plan: TestedPlan, run: &[u8], answer: &mut [u8]) -> Result<(), Refusal>
     requires run_len { length run.now ≡ 291 }
     requires answer_len { length answer.old ≡ 9 }
@@ -57,6 +60,7 @@ pub fn apart_on(plan: TestedPlan, run: &[u8], answer: &mut [u8]) -> Result<(), R
     Ok(())
 }
 
+#[tactic(auto, unfolding(crate::specs::TestsAndWrites::ticks_asked, answer_bytes::specs::Forms::ticks_bytes))]
 pub fn reckon_on(plan: TestedPlan, run: &[u8], node: u32, ticks: &mut [u8]) -> Result<(), Refusal>
     requires run_len { length run.now ≡ 291 }
     requires ticks_len { length ticks.old ≡ 4 }

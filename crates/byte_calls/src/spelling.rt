@@ -6,6 +6,7 @@ use letters::{Letter, Spelt};
 use plan::Refusal;
 use run::Step;
 
+#[tactic(auto, unfolding(crate::specs::Many::step_spelt), using(letters::proofs::Spelling::letter_byte, letters::proofs::Spelling::no_letter, letters::proofs::Spelling::byte_is_letter))]
 pub fn step_spelt(letter: u8, number: u32) -> Result<Step, Refusal>
     ensures { result ≡ step_spelt letter number }
 {
