@@ -1,31 +1,28 @@
--- Each answer as a number: 0 done, 254 finished, else the refusal's.
-use Rattle.std.specs.Prelude.{ℕ}
-use Rattle.run.specs.declared.Answer.{Answer}
-use Rattle.run.specs.declared.Answer.TheVariants as answer
-use Rattle.run.specs.declared.Reckoned.{Reckoned}
-use Rattle.run.specs.declared.Reckoned.TheVariants as reckoned
-use Rattle.shown.specs.declared.Next.{Next}
-use Rattle.shown.specs.declared.Next.TheVariants as next
-use Rattle.step_lines.specs.declared.Line.{Line}
-use Rattle.step_lines.specs.declared.Line.TheVariants as line
+-- What a call answers, as a number: 0 done, 254 finished, 255 a lent buffer of another length, else the refusal's.
+use Rattle.std.specs.Prelude.{ℕ, Option, None, Some, Result, Ok, Err}
+use Rattle.plan.specs.declared.refusal.Refusal.{Refusal}
+use Rattle.plan.specs.Refusals.{number_of}
+use Rattle.answer_bytes.specs.declared.answers.Unanswered.{Unanswered}
+use Rattle.answer_bytes.specs.declared.answers.Unanswered.TheVariants.{Refused, Finished, AnotherLength}
 
--- 254: the shown run has no more steps.
-abbrev pub finished : ℕ
-finished = 254
+-- 254: the shown run has no more steps. 255: a lent buffer has another length than the call asks for.
+abbrev pub unanswered_number : Unanswered → ℕ
+unanswered_number (Refused r) = number_of r
+unanswered_number Finished = 254
+unanswered_number AnotherLength = 255
 
-abbrev pub answer_number : Answer → ℕ
-answer_number answer.Done = 0
-answer_number (answer.Refused n) = n
+module _ {A : Type 0} where
+  abbrev pub answer_number : Result A Unanswered → ℕ
+  answer_number (Ok a) = 0
+  answer_number (Err u) = unanswered_number u
 
-abbrev pub reckoned_number : Reckoned → ℕ
-reckoned_number (reckoned.Ticks n) = 0
-reckoned_number (reckoned.Refused n) = n
+  -- An answer that may be refused.
+  abbrev pub or_refused : Result A Refusal → Result A Unanswered
+  or_refused (Ok a) = Ok a
+  or_refused (Err r) = Err (Refused r)
 
-abbrev pub next_number : Next → ℕ
-next_number (next.Takes s) = 0
-next_number next.Finished = finished
-next_number (next.Refused n) = n
-
-abbrev pub line_number : Line → ℕ
-line_number (line.Asks s) = 0
-line_number (line.Refused n) = n
+  -- The next of something, which is finished where there is none.
+  abbrev pub or_finished : Result (Option A) Refusal → Result A Unanswered
+  or_finished (Ok (Some a)) = Ok a
+  or_finished (Ok None) = Err Finished
+  or_finished (Err r) = Err (Refused r)

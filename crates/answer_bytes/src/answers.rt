@@ -1,47 +1,47 @@
-// Answers as numbers: 0 done, 254 finished, else the refusal's.
+// What a call answers: nothing but that it is done, or why it did nothing.
 ghost use Rattle.std.specs.Prelude.{◌≡◌};
-ghost use Rattle.answer_bytes.specs.Answers.{answer_number, reckoned_number, next_number, line_number};
+ghost use Rattle.answer_bytes.specs.Answers.{unanswered_number, answer_number};
 
-use run::{Answer, Reckoned};
-use shown::Next;
-use step_lines::Line;
+use plan::Refusal;
 
-// The shown run has no more steps.
-pub const FINISHED: u8 = 254;
+// Why a call did nothing.
+#[derive(Clone, Copy, Debug, PartialEq, Eq)]
+pub enum Unanswered {
+    Refused(Refusal),
+    // the shown run has no more steps
+    Finished,
+    // a lent buffer has another length than the call asks for
+    AnotherLength,
+}
 
-pub fn answer_number(answer: Answer) -> u8
-    ensures { result ≡ answer_number answer }
+impl Unanswered {
+    pub fn number(self) -> u8
+        ensures { result ≡ unanswered_number self }
+    {
+        match self {
+            Unanswered::Refused(refusal) => refusal.number(),
+            Unanswered::Finished => 254,
+            Unanswered::AnotherLength => 255,
+        }
+    }
+}
+
+impl From<Refusal> for Unanswered {
+    ghost use Rattle.answer_bytes.specs.declared.answers.Unanswered.TheVariants.{Refused};
+
+    ghost from_gives = { λ refusal unanswered. unanswered ≡ Refused refusal };
+
+    fn from(refusal: Refusal) -> Unanswered {
+        Unanswered::Refused(refusal)
+    }
+}
+
+// An answer as a number: 0 where there is one, else the number of what stands in its place.
+pub fn answer_number<A>(answer: &Result<A, Unanswered>) -> u8
+    ensures { result ≡ answer_number answer.now }
 {
     match answer {
-        Answer::Done => 0,
-        Answer::Refused(number) => number,
-    }
-}
-
-pub fn reckoned_number(reckoned: Reckoned) -> u8
-    ensures { result ≡ reckoned_number reckoned }
-{
-    match reckoned {
-        Reckoned::Ticks(_) => 0,
-        Reckoned::Refused(number) => number,
-    }
-}
-
-pub fn next_number(next: Next) -> u8
-    ensures { result ≡ next_number next }
-{
-    match next {
-        Next::Takes(_) => 0,
-        Next::Finished => FINISHED,
-        Next::Refused(number) => number,
-    }
-}
-
-pub fn line_number(line: Line) -> u8
-    ensures { result ≡ line_number line }
-{
-    match line {
-        Line::Asks(_) => 0,
-        Line::Refused(number) => number,
+        Ok(_) => 0,
+        Err(unanswered) => unanswered.number(),
     }
 }

@@ -1,84 +1,46 @@
-// Answers as bytes, each in a buffer of its own length; where there is nothing to write, the buffer stays as it was.
-ghost use Rattle.std.specs.Prelude.{◌≡◌, ◌∷◌, ◌++◌, length};
+// Answers as bytes.
+ghost use Rattle.std.specs.Prelude.{◌≡◌, ◌∷◌};
 ghost use Rattle.run_bytes.specs.Numbers.{be32_bytes};
-ghost use Rattle.answer_bytes.specs.Forms.{step_bytes, apart_bytes, ticks_bytes, line_bytes, next_bytes};
+ghost use Rattle.answer_bytes.specs.Forms.{step_bytes, apart_bytes, ticks_bytes};
 
-use run::{Apart, Reckoned, Step};
-use run_bytes::{put8, put32};
-use shown::Next;
-use step_lines::Line;
+use run::{Apart, Step, Ticks};
+use run_bytes::put;
 
-fn write_letter(bytes: &mut [u8], letter: u8, number: u32)
-    requires { length bytes.old ≡ 5 }
-    ensures { bytes.new ≡ letter ∷ be32_bytes number }
+fn letter_form(letter: u8, number: u32) -> [u8; 5]
+    ensures { result ≡ letter ∷ be32_bytes number }
 {
-    put8(bytes, 0, letter);
-    put32(bytes, 1, number);
+    let mut form = [letter; 5];
+    put(&mut form, 1, &number.to_be_bytes());
+    form
 }
 
 #[tactic(auto, unfolding(crate::specs::Forms::step_bytes))]
-fn write_step(bytes: &mut [u8], step: Step)
-    requires { length bytes.old ≡ 5 }
-    ensures { bytes.new ≡ step_bytes step }
+pub fn step_form(step: Step) -> [u8; 5]
+    ensures { result ≡ step_bytes step }
 {
     match step {
-        Step::Delay(time) => write_letter(bytes, b'D', time.0),
-        Step::TickOf(node) => write_letter(bytes, b'T', node.0),
-        Step::SendOf(node) => write_letter(bytes, b'S', node.0),
+        Step::Delay(time) => letter_form(b'D', time.0),
+        Step::TickOf(node) => letter_form(b'T', node.0),
+        Step::SendOf(node) => letter_form(b'S', node.0),
     }
-}
-
-#[tactic(auto, unfolding(crate::specs::Forms::line_bytes))]
-pub fn write_line(bytes: &mut [u8], line: Line)
-    requires { length bytes.old ≡ 5 }
-    ensures { bytes.new ≡ line_bytes line bytes.old }
-{
-    match line {
-        Line::Asks(step) => write_step(bytes, step),
-        Line::Refused(_) => {}
-    }
-}
-
-#[tactic(auto, unfolding(crate::specs::Forms::next_bytes))]
-pub fn write_next(bytes: &mut [u8], next: Next)
-    requires { length bytes.old ≡ 5 }
-    ensures { bytes.new ≡ next_bytes next bytes.old }
-{
-    match next {
-        Next::Takes(step) => write_step(bytes, step),
-        Next::Finished => {}
-        Next::Refused(_) => {}
-    }
-}
-
-fn write_pair(bytes: &mut [u8], out: u8, a: u32, b: u32)
-    requires { length bytes.old ≡ 9 }
-    ensures { bytes.new ≡ out ∷ (be32_bytes a ++ be32_bytes b) }
-{
-    put8(bytes, 0, out);
-    put32(bytes, 1, a);
-    put32(bytes, 5, b);
 }
 
 #[tactic(auto, unfolding(crate::specs::Forms::apart_bytes))]
-pub fn write_apart(bytes: &mut [u8], apart: Apart)
-    requires { length bytes.old ≡ 9 }
-    ensures { bytes.new ≡ apart_bytes apart bytes.old }
+pub fn apart_form(apart: Option<Apart>) -> [u8; 9]
+    ensures { result ≡ apart_bytes apart }
 {
-    match apart {
-        Apart::InStep => write_pair(bytes, 0, 0, 0),
-        Apart::Out(a, b) => write_pair(bytes, 1, a.0, b.0),
-        Apart::Refused(_) => {}
+    let mut form = [0; 9];
+    if let Some(apart) = apart {
+        form[0] = 1;
+        put(&mut form, 1, &apart.sending.0.to_be_bytes());
+        put(&mut form, 5, &apart.elsewhere.0.to_be_bytes());
     }
+    form
 }
 
-#[tactic(auto, using(run_bytes::proofs::Sets::sets_whole), unfolding(crate::specs::Forms::ticks_bytes))]
-pub fn write_ticks(bytes: &mut [u8], reckoned: Reckoned)
-    requires { length bytes.old ≡ 4 }
-    ensures { bytes.new ≡ ticks_bytes reckoned bytes.old }
+#[tactic(auto, unfolding(crate::specs::Forms::ticks_bytes))]
+pub fn ticks_form(ticks: Ticks) -> [u8; 4]
+    ensures { result ≡ ticks_bytes ticks }
 {
-    match reckoned {
-        Reckoned::Ticks(ticks) => put32(bytes, 0, ticks),
-        Reckoned::Refused(_) => {}
-    }
+    ticks.0.to_be_bytes()
 }

@@ -6,7 +6,7 @@ mod forms;
 mod places;
 mod verdicts;
 
-pub use answers::{answer_number, line_number, next_number, reckoned_number};
-pub use forms::{write_apart, write_line, write_next, write_ticks};
+pub use answers::{Unanswered, answer_number};
+pub use forms::{apart_form, step_form, ticks_form};
 pub use places::{place_wrong, read_place, write_place};
-pub use verdicts::write_verdict;
+pub use verdicts::verdict_form;

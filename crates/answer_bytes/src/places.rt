@@ -2,7 +2,7 @@
 ghost use Rattle.std.specs.Prelude.{◌≡◌, ◌≤◌, length};
 ghost use Rattle.answer_bytes.specs.Places.{mark_byte, mark_in, place_in, place_bytes, place_wrong};
 
-use run_bytes::{put8, read_run, spells_no_run, write_run};
+use run_bytes::{put, read_run, spells_no_run, write_run};
 use shown::{Mark, Place};
 
 fn mark_byte(mark: Mark) -> u8
@@ -19,13 +19,11 @@ fn mark_byte(mark: Mark) -> u8
 fn mark_in(byte: u8) -> Mark
     ensures { result ≡ mark_in byte }
 {
-    if byte == 0 {
-        return Mark::Before;
+    match byte {
+        0 => Mark::Before,
+        1 => Mark::In,
+        _ => Mark::After,
     }
-    if byte == 1 {
-        return Mark::In;
-    }
-    Mark::After
 }
 
 #[tactic(auto, using(laws::proofs::Bools::or_true_left), unfolding(crate::specs::Places::place_wrong))]
@@ -33,10 +31,7 @@ pub fn place_wrong(bytes: &[u8], nodes: usize) -> bool
     requires { (nodes ≤ 32) × (length bytes.now ≡ 292) }
     ensures { result ≡ place_wrong nodes bytes.now }
 {
-    if spells_no_run(bytes, nodes) {
-        return true;
-    }
-    2 < bytes[291]
+    spells_no_run(bytes, nodes) || 2 < bytes[291]
 }
 
 #[tactic(auto, unfolding(crate::specs::Places::place_in))]
@@ -44,9 +39,8 @@ pub fn read_place(bytes: &[u8], nodes: usize) -> Place
     requires { (nodes ≤ 32) × (length bytes.now ≡ 292) }
     ensures { result ≡ place_in nodes bytes.now }
 {
-    let run = read_run(bytes, nodes);
     Place {
-        run: run,
+        run: read_run(bytes, nodes),
         mark: mark_in(bytes[291]),
     }
 }
@@ -56,8 +50,6 @@ pub fn write_place(bytes: &mut [u8], nodes: usize, place: Place)
     requires { (nodes ≤ 32) × (length bytes.old ≡ 292) }
     ensures { bytes.new ≡ place_bytes nodes place bytes.old }
 {
-    let run = place.run;
-    let mark = place.mark;
-    write_run(bytes, nodes, run);
-    put8(bytes, 291, mark_byte(mark));
+    write_run(bytes, nodes, place.run);
+    put(bytes, 291, &[mark_byte(place.mark)]);
 }

@@ -11,15 +11,7 @@ mod verdicts;
 
 pub use lengths::{counts_differ, lengths_differ};
 pub use many::steps_on;
-use plan::Plan;
 pub use runs::{apart_on, reckon_on, step_on};
 pub use shown_runs::next_on;
 pub use taking::taken_from;
 pub use verdicts::verdict_by;
-
-// A plan file read: the reader's refusal, 0 where it takes the file, and the plan.
-#[derive(Clone, Copy)]
-pub struct Taken {
-    pub number: u8,
-    pub plan: Plan,
-}

@@ -1,70 +1,62 @@
 // Many steps by bytes, 5 each, one after the other.
-ghost use Rattle.std.specs.Prelude.{◌≡◌, true, ◌*◌, length};
-ghost use Rattle.laws.specs.Row.{first_given};
-ghost use Rattle.plan.specs.Tested.{plan_number, Sound};
-ghost use Rattle.run.specs.State.{in_range};
+ghost use Rattle.std.specs.Prelude.{◌≡◌, IfOk, ◌*◌, length};
+ghost use Rattle.std.specs.Result.{result_err, result_map};
 ghost use Rattle.byte_calls.specs.Many.{asked_of, after_asked, answers_bytes};
-ghost use Rattle.byte_calls.specs.TestsAndWrites.{run_tests, leaves, steps_writes, answers_writes};
+ghost use Rattle.byte_calls.specs.TestsAndWrites.{run_put, leaves, steps_asked, answers_put};
 
-use crate::runs::run_outside;
-use answer_bytes::answer_number;
-use plan::{LINE_WRONG, Plan, RUN_OUTSIDE};
+use crate::runs::run_tested;
+use plan::{Refusal, TestedPlan};
 use plan_file::be32;
-use run::{Answer, Run, Stepped};
-use run_bytes::{read_run, write_run};
-use step_lines::{is_letter, step_by};
+use run::TestedRun;
+use run_bytes::write_run;
+use step_lines::step_by;
 use steps::step_in_range;
 
 // A step by its letter and number. The run after it is in range again.
-fn step_asked(plan: Plan, run: Run, letter: u8, number: u32) -> Stepped
-    requires sound { Sound plan }
-    requires run_value { in_range plan run ≡ true }
-    ensures { (result ≡ asked_of plan run letter number) × (in_range plan result.run ≡ true) }
+fn step_asked(run: TestedRun, letter: u8, number: u32) -> Result<TestedRun, Refusal>
+    ensures value { result_map (λ next. next.run) result ≡ asked_of run.plan.plan run.run letter number }
+    ensures same_plan { IfOk result (λ next. next.plan.plan ≡ run.plan.plan) }
 {
-    if !is_letter(letter) {
-        return Stepped {
-            answer: Answer::Refused(LINE_WRONG),
-            run: run,
-        };
-    }
-    step_in_range(plan, run, step_by(letter, number))
+    let Some(step) = step_by(letter, number) else {
+        return Err(Refusal::LineWrong);
+    };
+    step_in_range(run, step)
 }
 
 // The run after all steps, and an answer for each.
-fn steps_asked(plan: Plan, run: Run, steps: &[u8], answers: &mut [u8]) -> Run
-    requires sound { Sound plan }
-    requires run_value { in_range plan run ≡ true }
-    requires steps_len { length steps.now ≡ 5 * length answers.old }
-    ensures value { result ≡ after_asked plan steps.now (length answers.old) run }
-    ensures answers_after { answers.new ≡ answers_bytes plan steps.now (length answers.old) run answers.old }
+fn steps_taken(run: TestedRun, steps: &[u8], answers: &mut [u8]) -> TestedRun
+    requires { length steps.now ≡ 5 * length answers.old }
+    ensures value { result.run ≡ after_asked run.plan.plan steps.now (length answers.old) run.run }
+    ensures answers_after { answers.new ≡ answers_bytes run.plan.plan steps.now (length answers.old) run.run answers.old }
 {
-    let count = answers.len();
     let mut state = run;
-    for k in 0..count {
-        let done = step_asked(plan, state, steps[5 * k], be32(steps, 5 * k + 1));
-        let answer = done.answer;
-        let next = done.run;
-        answers[k] = answer_number(answer);
-        state = next;
+    for (k, answer) in answers.iter_mut().enumerate() {
+        match step_asked(state, steps[5 * k], be32(steps, 5 * k + 1)) {
+            Ok(next) => {
+                *answer = 0;
+                state = next;
+            }
+            Err(refusal) => *answer = refusal.number(),
+        }
     }
     state
 }
 
 // Many steps on the run in bytes, of a plan that passed 1 to 9, with every buffer of the right length.
-pub fn steps_on(plan: Plan, run: &mut [u8], steps: &[u8], answers: &mut [u8]) -> u8
-    requires plan_value { plan_number plan ≡ 0 }
+pub fn steps_on(
+    plan: TestedPlan,
+    run: &mut [u8],
+    steps: &[u8],
+    answers: &mut [u8],
+) -> Result<(), Refusal>
     requires run_len { length run.old ≡ 291 }
     requires steps_len { length steps.now ≡ 5 * length answers.old }
-    ensures value { result ≡ first_given (run_tests plan run.old) }
-    ensures run_after { run.new ≡ leaves result (steps_writes plan run.old steps.now (length answers.old)) run.old }
-    ensures answers_after { answers.new ≡ leaves result (answers_writes plan run.old steps.now answers.old) answers.old }
+    ensures value { result_err result ≡ result_err (steps_asked plan.plan run.old steps.now (length answers.old)) }
+    ensures run_after { run.new ≡ leaves (steps_asked plan.plan run.old steps.now (length answers.old)) (run_put plan.plan run.old) run.old }
+    ensures answers_after { answers.new ≡ leaves (steps_asked plan.plan run.old steps.now (length answers.old)) (answers_put plan.plan run.old steps.now answers.old) answers.old }
 {
-    if run_outside(plan, run) {
-        return RUN_OUTSIDE;
-    }
-    let nodes = plan.nodes.0 as usize;
-    let before = read_run(run, nodes);
-    let after = steps_asked(plan, before, steps, answers);
-    write_run(run, nodes, after);
-    0
+    let before = run_tested(plan, run)?;
+    let after = steps_taken(before, steps, answers);
+    write_run(run, plan.plan.nodes.0 as usize, after.run);
+    Ok(())
 }

@@ -1,28 +1,14 @@
 // What every call on a plan file begins with: the plan in the file.
-ghost use Rattle.std.specs.Prelude.{◌≡◌};
-ghost use Rattle.plan.specs.Tested.{plan_number};
-ghost use Rattle.byte_calls.specs.Taken.{read_number, file_refusal, plan_in};
+ghost use Rattle.std.specs.Prelude.{◌≡◌, IfOk};
+ghost use Rattle.std.specs.Result.{result_err};
+ghost use Rattle.byte_calls.specs.Taken.{read_refusal, plan_in};
 
-use crate::Taken;
-use plan_file::{Read, read_plan};
+use plan::{Refusal, TestedPlan};
+use plan_file::read_tested;
 
-fn read_number(answer: Read) -> u8
-    ensures { result ≡ read_number answer }
+pub fn taken_from(file: &[u8]) -> Result<TestedPlan, Refusal>
+    ensures refusal { result_err result ≡ read_refusal file.now }
+    ensures plan { IfOk result (λ tested. tested.plan ≡ plan_in file.now) }
 {
-    match answer {
-        Read::Taken => 0,
-        Read::Refused(number) => number,
-    }
-}
-
-pub fn taken_from(file: &[u8]) -> Taken
-    ensures { (result.number ≡ file_refusal file.now) × (result.plan ≡ plan_in file.now) × (result.number ≡ 0 → plan_number result.plan ≡ 0) }
-{
-    let read = read_plan(file);
-    let answer = read.answer;
-    let plan = read.plan;
-    Taken {
-        number: read_number(answer),
-        plan: plan,
-    }
+    read_tested(file)
 }

@@ -1,5 +1,5 @@
-// What the test programs share: the lines of a list of cases, the plan and the run that a line tells, a plan by its numbers,
-// and words written out. A case is a line: a name, a colon, and parts with a bar between them:
+// What the test programs share: the lines of a list of cases, and the plan and the run that a line tells. A case is a line: a name,
+// a colon, and parts with a bar between them:
 //
 //     name: what is asked | N C n k0 g t min max | slots | slot of the last message | a node | another ..
 //
@@ -13,10 +13,8 @@ mod list;
 mod numbers;
 mod plans;
 mod runs;
-mod words;
 
-pub use list::{asked, line_at, name, parts};
+pub use list::{asked, each_case};
 pub use numbers::number;
-pub use plans::{plan_by, plan_in, slots_in_order};
+pub use plans::{plan_in, slots_in_order};
 pub use runs::run_in;
-pub use words::{write_number, write_word};

@@ -1,54 +1,32 @@
-// Lines of a list, and the two sides of a line's last colon.
-ghost use Rattle.std.specs.Prelude.{◌≤◌, length};
+// The cases of the file `cases`, and the two sides of a line's last colon.
+use std::io;
+use std::rt::Files;
+use streams::read_file_start;
 
-// Where the line that begins at `from` ends.
-fn line_end(list: &[u8], from: usize) -> usize
-    requires { from ≤ length list.now }
-    ensures { (from ≤ result) × (result ≤ length list.now) }
+// A line's name and its parts: what stands before its last colon, and the colon with what follows it. Where it has no colon, all
+// of it is the name.
+fn name_and_parts(line: &[u8]) -> (&[u8], &[u8]) {
+    let colon = line.iter().rposition(|byte| *byte == b':');
+    line.split_at(colon.unwrap_or(line.len()))
+}
+
+// Each case in order, by its name and its parts.
+pub fn each_case<F: FnMut(&[u8], &[u8]) -> io::Result<()>>(
+    rt: &impl Files,
+    mut case: F,
+) -> io::Result<()>
+    requires { F.IsAlwaysCallable case }
 {
-    for i in from..list.len() {
-        if list[i] == b'\n' {
-            return i;
-        }
+    let mut list = [0u8; 65536];
+    let n = read_file_start(rt, b"cases", &mut list);
+    for line in list[..n].split_inclusive(|byte| *byte == b'\n') {
+        let (name, parts) = name_and_parts(line.strip_suffix(b"\n").unwrap_or(line));
+        case(name, parts)?;
     }
-    list.len()
-}
-
-// The line that begins at `from`, without its newline.
-pub fn line_at(list: &[u8], from: usize) -> &[u8]
-    requires { from ≤ length list.now }
-{
-    let end = line_end(list, from);
-    &list[from..end]
-}
-
-// Where a line has its last colon; its end where it has none.
-fn last_colon(line: &[u8]) -> usize
-    ensures { result ≤ length line.now }
-{
-    let mut i = line.len();
-    while i > 0 {
-        i = i - 1;
-        if line[i] == b':' {
-            return i;
-        }
-    }
-    line.len()
-}
-
-// What stands before the last colon: the whole line where it has none.
-pub fn name(line: &[u8]) -> &[u8] {
-    let colon = last_colon(line);
-    &line[0..colon]
-}
-
-// The last colon and what follows it: nothing where the line has none.
-pub fn parts(line: &[u8]) -> &[u8] {
-    let colon = last_colon(line);
-    &line[colon..]
+    Ok(())
 }
 
 // The letter that says what is asked: the second byte after the colon.
 pub fn asked(parts: &[u8]) -> u8 {
-    if 2 < parts.len() { parts[2] } else { 0 }
+    parts.get(2).copied().unwrap_or(0)
 }

@@ -20,7 +20,7 @@ pub fn be16(file: &[u8], at: usize) -> u16
     requires { at + 1 < length file.now }
     ensures { result ≡ be16_of file.now at }
 {
-    u16::from(file[at]) * 256 + u16::from(file[at + 1])
+    u16::from_be_bytes([file[at], file[at + 1]])
 }
 
 #[tactic(auto, unfolding(crate::specs::File::be32_of))]
@@ -28,10 +28,7 @@ pub fn be32(file: &[u8], at: usize) -> u32
     requires { at + 3 < length file.now }
     ensures { result ≡ be32_of file.now at }
 {
-    u32::from(file[at]) * 16777216
-        + u32::from(file[at + 1]) * 65536
-        + u32::from(file[at + 2]) * 256
-        + u32::from(file[at + 3])
+    u32::from_be_bytes([file[at], file[at + 1], file[at + 2], file[at + 3]])
 }
 
 // Fewer than 5 bytes, or mark not `CSP`.

@@ -2,108 +2,83 @@
 #![tactic(auto)]
 
 ghost use Rattle.std.specs.Prelude.{◌≡◌, true, false, ◌<◌};
-ghost use Rattle.plan.specs.Tested.{Sound};
+ghost use Rattle.std.specs.Result.{result_err};
 ghost use Rattle.run.specs.State.{node_in_range, last_in_range};
-ghost use Rattle.run.specs.Reckoning.{ticks_from, reckoning, below_zero, reckoning_number, reckoned_tested, reckoned_of};
+ghost use Rattle.run.specs.Reckoning.{ticks_from, reckoning, below_zero, reckoning_refusal, reckoned_tested, reckoned_of};
 
-use plan::{NODE_UNKNOWN, Node, Plan, RECKONING_BELOW_0, RUN_OUTSIDE, Slot, plan_number};
-use run::{Last, NodeState, Reckoned, Run, in_range};
+use plan::{Node, Plan, Refusal, Slot, TestedPlan};
+use run::{NodeState, Run, Ticks};
 
 // The last message's slot, nothing pending, clock below g.
 #[tactic(auto, unfolding(run::specs::Reckoning::below_zero))]
-fn below_zero(plan: Plan, last: Last, node: NodeState) -> bool
+fn below_zero(plan: Plan, last: Option<Slot>, node: NodeState) -> bool
     ensures { result ≡ below_zero plan last node }
 {
     match last {
-        Last::At(slot) => {
-            if node.slot.0 != slot.0 {
-                return false;
-            }
-            if node.pending {
-                return false;
-            }
-            node.clock.0 < plan.guard.0
-        }
-        Last::Nothing => false,
+        Some(slot) => node.slot == slot && !node.pending && node.clock.0 < plan.guard.0,
+        None => false,
     }
 }
 
 // The ticks since the beginning of slot p: ((slot − p) modulo C)·k0 + clock.
 #[tactic(auto, unfolding(laws::specs::Ring::distance))]
-fn ticks_from(plan: Plan, p: Slot, node: NodeState) -> u32
-    requires sound { Sound plan }
-    requires node_value { node_in_range plan node ≡ true }
-    requires p_lt_frame { p.0 < plan.frame.0 }
-    ensures { result ≡ ticks_from plan p.0 node.clock.0 node.slot.0 }
+fn ticks_from(plan: TestedPlan, p: Slot, node: NodeState) -> u32
+    requires node_value { node_in_range plan.plan node ≡ true }
+    requires p_lt_frame { p.0 < plan.plan.frame.0 }
+    ensures { result ≡ ticks_from plan.plan p.0 node.clock.0 node.slot.0 }
 {
+    let plan = plan.plan;
     let slots = (node.slot.0 + plan.frame.0 - p.0) % plan.frame.0;
-    (slots as u32) * (plan.ticks.0 as u32) + (node.clock.0 as u32)
+    slots as u32 * plan.ticks.0 as u32 + node.clock.0 as u32
 }
 
 // The clock, if no message was sent; 0 if one is pending; otherwise the ticks since the last message's slot began, less g.
 #[tactic(auto, unfolding(run::specs::Reckoning::reckoning))]
-fn ticks_reckoned(plan: Plan, last: Last, node: NodeState) -> u32
-    requires sound { Sound plan }
-    requires node_value { node_in_range plan node ≡ true }
-    requires last_value { last_in_range plan last ≡ true }
-    requires not_below_zero { below_zero plan last node ≡ false }
-    ensures { result ≡ reckoning plan last node }
+fn ticks_reckoned(plan: TestedPlan, last: Option<Slot>, node: NodeState) -> Ticks
+    requires node_value { node_in_range plan.plan node ≡ true }
+    requires last_value { last_in_range plan.plan last ≡ true }
+    requires not_below_zero { below_zero plan.plan last node ≡ false }
+    ensures { result.0 ≡ reckoning plan.plan last node }
 {
     match last {
-        Last::At(slot) => {
+        Some(slot) => {
             if node.pending {
-                return 0;
+                return Ticks(0);
             }
-            ticks_from(plan, slot, node) - (plan.guard.0 as u32)
+            Ticks(ticks_from(plan, slot, node) - plan.plan.guard.0 as u32)
         }
-        Last::Nothing => node.clock.0 as u32,
+        None => Ticks(node.clock.0 as u32),
     }
 }
 
-// Which of 10, 12 and 17 speaks first against a reckoning; 0 where none does.
-#[tactic(auto, unfolding(run::specs::Reckoning::reckoning_number, laws::specs::Row::first_given))]
-fn reckoning_number(plan: Plan, run: Run, i: Node) -> u8
-    requires { Sound plan }
-    ensures { result ≡ reckoning_number plan run i.0 }
+// Which of 10, 12 and 17 speaks first against a reckoning.
+#[tactic(auto, unfolding(run::specs::Reckoning::reckoning_refusal, laws::specs::Row::first_given))]
+fn reckoning_refusal(plan: TestedPlan, run: Run, i: Node) -> Result<(), Refusal>
+    ensures { result_err result ≡ reckoning_refusal plan.plan run i.0 }
 {
-    if !in_range(plan, run) {
-        return RUN_OUTSIDE;
+    run.tested(plan)?;
+    if plan.plan.nodes.0 <= i.0 {
+        return Err(Refusal::NodeUnknown);
     }
-    if plan.nodes.0 <= i.0 {
-        return NODE_UNKNOWN;
+    if below_zero(plan.plan, run.last, run.nodes[i.0 as usize]) {
+        return Err(Refusal::ReckoningBelow0);
     }
-    let last = run.last;
-    let node = run.nodes[i.0 as usize];
-    if below_zero(plan, last, node) {
-        return RECKONING_BELOW_0;
-    }
-    0
+    Ok(())
 }
 
 // The reckoning of a plan that passed 1 to 9.
 #[tactic(auto, unfolding(run::specs::Reckoning::reckoned_tested))]
-pub fn reckon_tested(plan: Plan, run: Run, i: Node) -> Reckoned
-    requires { Sound plan }
-    ensures { result ≡ reckoned_tested plan run i.0 }
+pub fn reckon_tested(plan: TestedPlan, run: Run, i: Node) -> Result<Ticks, Refusal>
+    ensures { result ≡ reckoned_tested plan.plan run i.0 }
 {
-    let number = reckoning_number(plan, run, i);
-    if number != 0 {
-        return Reckoned::Refused(number);
-    }
-    let last = run.last;
-    let node = run.nodes[i.0 as usize];
-    let ticks = ticks_reckoned(plan, last, node);
-    Reckoned::Ticks(ticks)
+    reckoning_refusal(plan, run, i)?;
+    Ok(ticks_reckoned(plan, run.last, run.nodes[i.0 as usize]))
 }
 
 // A node's reckoning, of any plan on any run.
 #[tactic(auto, unfolding(run::specs::Reckoning::reckoned_of))]
-pub fn reckon(plan: Plan, run: Run, node: Node) -> Reckoned
+pub fn reckon(plan: Plan, run: Run, node: Node) -> Result<Ticks, Refusal>
     ensures { result ≡ reckoned_of plan run node.0 }
 {
-    let number = plan_number(plan);
-    if number != 0 {
-        return Reckoned::Refused(number);
-    }
-    reckon_tested(plan, run, node)
+    reckon_tested(plan.tested()?, run, node)
 }

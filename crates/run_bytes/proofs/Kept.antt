@@ -13,7 +13,7 @@ use Rattle.laws.specs.Below.{any_below}
 use Rattle.laws.proofs.Belows.{any_not}
 use Rattle.laws.specs.Bytes.{byte_at}
 use Rattle.plan_file.specs.File.{be16_of, be32_of}
-use Rattle.run.specs.declared.Last.TheVariants.{At, Nothing}
+use Rattle.std.specs.Prelude.{None, Some}
 use Rattle.run.specs.declared.Run.{Run}
 use Rattle.run.specs.State.{node}
 use Rattle.run_bytes.specs.RunBytes.{mode_byte, mode_in, flag_byte, node_bytes, last_bytes, node_in, last_in, run_in, nodes_bytes, run_bytes, node_wrong, spells_no_run}
@@ -75,11 +75,11 @@ last_kept l b h p = go (ℕ_discrete (byte_at l 288) 0)
     go : Dec (byte_at l 288 ≡ 0) → sets l 288 (last_bytes (last_in l)) ≡ l
     go (yes e) =
         let none = p e in
-        rw (last_in, eq-eqb _ 0 e) (sets_same l 0 288 (last_bytes Nothing) (sym e, (omega arith, (omega arith, tt))))
+        rw (last_in, eq-eqb _ 0 e) (sets_same l 0 288 (last_bytes None) (sym e, (omega arith, (omega arith, tt))))
     go (no e) =
         let one : 1 ≡ byte_at l 288 = omega (arith, ltb-false 1 (byte_at l 288) h) in
         let b₂ = b 290 in
-        rw (last_in, ne_eqb _ 0 e) (sets_same l 0 288 (last_bytes (At (record { 0 = be16_of l 289 }))) (one, (omega arith, (omega arith, tt))))
+        rw (last_in, ne_eqb _ 0 e) (sets_same l 0 288 (last_bytes (Some (record { 0 = be16_of l 289 }))) (one, (omega arith, (omega arith, tt))))
 
 -- Writing what was read gives the bytes that were there.
 pub written_read : (N : ℕ) (l : List ℕ) → N ≤ 32 → AllBytes l → spells_no_run N l ≡ false → NonePlain l → run_bytes N (run_in N l) l ≡ l
@@ -91,7 +91,7 @@ written_read N l few b h p =
 
 last_holdable : (l : List ℕ) → AllBytes l → LastFits (last_in l)
 unfolding last_in be16_of
-last_holdable l b = cond_by LastFits (eqb (byte_at l 288) 0) Nothing (At (record { 0 = be16_of l 289 })) (λ t. tt) (λ f. omega (arith, b 289, b 290))
+last_holdable l b = cond_by LastFits (eqb (byte_at l 288) 0) None (Some (record { 0 = be16_of l 289 })) (λ t. tt) (λ f. omega (arith, b 289, b 290))
 
 -- Every run that is read from bytes can be held in bytes.
 pub read_holdable : (N : ℕ) (l : List ℕ) → N ≤ 32 → AllBytes l → Holdable N (run_in N l)

@@ -3,3 +3,4 @@ pub mod Sets
 pub mod Written
 pub mod RoundTrip
 pub mod Kept
+pub mod Numbers

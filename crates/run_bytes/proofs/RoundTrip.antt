@@ -12,11 +12,11 @@ use Rattle.laws.specs.Bytes.{byte_at}
 use Rattle.plan_file.specs.File.{be16_of, be32_of}
 use Rattle.run.specs.declared.Mode.{Mode}
 use Rattle.run.specs.declared.Mode.TheVariants.{Waiting, AboutToSend, Sending}
-use Rattle.run.specs.declared.Last.{Last}
-use Rattle.run.specs.declared.Last.TheVariants.{At, Nothing}
+use Rattle.plan.specs.declared.Slot.{Slot}
+use Rattle.std.specs.Prelude.{Option, None, Some}
 use Rattle.run.specs.declared.NodeState.{NodeState}
 use Rattle.run.specs.declared.Run.{Run}
-use Rattle.run.specs.State.{fresh_node, node}
+use Rattle.run.specs.State.{fresh_node, fresh_run, node}
 use Rattle.laws.proofs.Overs.{get_or_over, get_or_past, length_over}
 use Rattle.run_bytes.specs.RunBytes.{mode_byte, mode_in, flag_byte, node_bytes, last_bytes, node_in, last_in, run_in, nodes_bytes, run_bytes}
 use Rattle.run_bytes.proofs.Sets.{get_or_sets_before, get_or_sets_in}
@@ -27,9 +27,9 @@ pub record NodeFits (a : NodeState) : Type 0 where
   pub slot_fits : a.slot.0 < 65536
   pub time_fits : a.time.0 < 4294967296
 
-abbrev pub LastFits : Last → Type 0
-LastFits Nothing = Unit {0}
-LastFits (At s) = s.0 < 65536
+abbrev pub LastFits : Option Slot → Type 0
+LastFits None = Unit {0}
+LastFits (Some s) = s.0 < 65536
 
 -- A run that bytes can hold for N nodes: numbers that fit their types, and fresh places from N on.
 pub record Holdable (N : ℕ) (r : Run) : Type 0 where
@@ -37,6 +37,10 @@ pub record Holdable (N : ℕ) (r : Run) : Type 0 where
   pub nodes_fit : (i : ℕ) → i < N → NodeFits (node r i)
   pub rest_fresh : (i : ℕ) → N ≤ i → i < 32 → node r i ≡ fresh_node
   pub last_fits : LastFits r.last
+
+pub fresh_places : length fresh_run.nodes ≡ 32
+unfolding fresh_run
+fresh_places = length-replicate 32 fresh_node
 
 mode_back : (m : Mode) → mode_in (mode_byte m) ≡ m
 unfolding mode_in
@@ -120,13 +124,13 @@ nodes_back (suc n) r bytes w f i h = go (ℕ_discrete i n) (nodes_back n r bytes
         node_same (nodes_bytes (suc n) r bytes) (nodes_bytes n r bytes) (9 * i) (λ j low high. get_or_sets_before (nodes_bytes n r bytes) (9 * n) j (node_bytes (node r n)) 0 (omega arith))
         ∙ before (omega arith)
 
-last_back : (l : List ℕ) (x : Last) → 291 ≤ length l → LastFits x → last_in (sets l 288 (last_bytes x)) ≡ x
+last_back : (l : List ℕ) (x : Option Slot) → 291 ≤ length l → LastFits x → last_in (sets l 288 (last_bytes x)) ≡ x
 unfolding last_in last_bytes be16_of
-last_back l Nothing w f = rw (get_or_sets_in l 288 288 0 (last_bytes Nothing) 0 refl (omega arith) w)
-last_back l (At s) w f =
-    let slot : be16_of (sets l 288 (last_bytes (At s))) 289 ≡ s.0 =
-    rw (get_or_sets_in l 288 289 1 (last_bytes (At s)) 0 refl (omega arith) w, get_or_sets_in l 288 290 2 (last_bytes (At s)) 0 refl (omega arith) w) (omega arith) in
-    rw (get_or_sets_in l 288 288 0 (last_bytes (At s)) 0 refl (omega arith) w, slot)
+last_back l None w f = rw (get_or_sets_in l 288 288 0 (last_bytes None) 0 refl (omega arith) w)
+last_back l (Some s) w f =
+    let slot : be16_of (sets l 288 (last_bytes (Some s))) 289 ≡ s.0 =
+    rw (get_or_sets_in l 288 289 1 (last_bytes (Some s)) 0 refl (omega arith) w, get_or_sets_in l 288 290 2 (last_bytes (Some s)) 0 refl (omega arith) w) (omega arith) in
+    rw (get_or_sets_in l 288 288 0 (last_bytes (Some s)) 0 refl (omega arith) w, slot)
 
 module _ (N : ℕ) (r : Run) (bytes : List ℕ) (few : N ≤ 32) (long : 291 ≤ length bytes) where
   -- Reading what was written gives the same first N places..

@@ -1,6 +1,6 @@
 -- The byte form of a run: 9 bytes for each of 32 places, then 3 for the last message; 291 in all.
 -- Of the places only the first N count: from N on bytes are neither tested nor read nor written.
-use Rattle.std.specs.Prelude.{ℕ, zero, suc, ◌+◌, ◌*◌, Bool, true, false, cond, not, ◌||◌, List, [], ◌∷◌, ◌++◌, replicate, eqb, ltb}
+use Rattle.std.specs.Prelude.{ℕ, zero, suc, ◌+◌, ◌*◌, Bool, true, false, cond, not, ◌||◌, List, [], ◌∷◌, ◌++◌, Option, None, Some, replicate, eqb, ltb}
 use Rattle.std.proofs.lemmas.List.Edits.{sets}
 use Rattle.laws.specs.Below.{any_below}
 use Rattle.laws.specs.Over.{over}
@@ -8,8 +8,7 @@ use Rattle.laws.specs.Bytes.{byte_at}
 use Rattle.plan_file.specs.File.{be16_of, be32_of}
 use Rattle.run.specs.declared.Mode.{Mode}
 use Rattle.run.specs.declared.Mode.TheVariants.{Waiting, AboutToSend, Sending}
-use Rattle.run.specs.declared.Last.{Last}
-use Rattle.run.specs.declared.Last.TheVariants.{At, Nothing}
+use Rattle.plan.specs.declared.Slot.{Slot}
 use Rattle.run.specs.declared.NodeState.{NodeState}
 use Rattle.run.specs.declared.Run.{Run}
 use Rattle.run.specs.State.{fresh_node, node}
@@ -35,9 +34,9 @@ node_bytes a =
     a.clock.0 ∷ be16_bytes a.slot.0 ++ be32_bytes a.time.0 ++ mode_byte a.mode ∷ flag_byte a.pending ∷ []
 
 -- The last message: 0 0 0 for none, or 1 and its slot (2).
-unfoldable pub last_bytes : Last → List ℕ
-last_bytes Nothing = 0 ∷ 0 ∷ 0 ∷ []
-last_bytes (At s) = 1 ∷ be16_bytes s.0
+unfoldable pub last_bytes : Option Slot → List ℕ
+last_bytes None = 0 ∷ 0 ∷ 0 ∷ []
+last_bytes (Some s) = 1 ∷ be16_bytes s.0
 
 -- The node and the last message that stand at a place of the bytes.
 unfoldable pub node_in : List ℕ → ℕ → NodeState
@@ -50,8 +49,8 @@ node_in bytes at =
       pending = not (eqb (byte_at bytes (at + 8)) 0);
     }
 
-unfoldable pub last_in : List ℕ → Last
-last_in bytes = cond (eqb (byte_at bytes 288) 0) Nothing (At (record { 0 = be16_of bytes 289 }))
+unfoldable pub last_in : List ℕ → Option Slot
+last_in bytes = cond (eqb (byte_at bytes 288) 0) None (Some (record { 0 = be16_of bytes 289 }))
 
 -- The run that bytes spell: places from N on are fresh.
 unfoldable pub run_in : ℕ → List ℕ → Run

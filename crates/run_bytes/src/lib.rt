@@ -1,45 +1,21 @@
 // The byte form of a run, which a caller outside keeps and lends.
 #![tactic(auto)]
 
-ghost use Rattle.std.specs.Prelude.{◌≡◌, ◌+◌, ◌*◌, ◌≤◌, length, set};
+ghost use Rattle.std.specs.Prelude.{◌≡◌, ◌+◌, ◌*◌, ◌≤◌, length};
 ghost use Rattle.std.proofs.lemmas.List.Edits.{sets};
-ghost use Rattle.run_bytes.specs.Numbers.{be16_bytes, be32_bytes, be64_bytes};
-ghost use Rattle.run_bytes.specs.RunBytes.{mode_byte, mode_in, flag_byte, node_bytes, last_bytes, node_in, last_in, run_in, run_bytes, node_wrong, spells_no_run};
+ghost use Rattle.laws.specs.Below.{any_below};
+ghost use Rattle.run_bytes.specs.RunBytes.{mode_byte, mode_in, node_bytes, last_bytes, node_in, last_in, run_in, run_bytes, node_wrong, spells_no_run};
 
 use plan::{Slot, Tick, Time};
 use plan_file::{be16, be32};
-use run::{Last, Mode, NodeState, Run, fresh};
+use run::{Mode, NodeState, Run, fresh};
 
-// A number of 8, 16, 32, 64 bits, big-endian, from a place on.
-pub fn put8(bytes: &mut [u8], at: usize, n: u8)
-    requires { at + 1 ≤ length bytes.old }
-    ensures { bytes.new ≡ set bytes.old at n }
+// A form of any length put from a place on.
+pub fn put(bytes: &mut [u8], at: usize, form: &[u8])
+    requires { at + length form.now ≤ length bytes.old }
+    ensures { bytes.new ≡ sets bytes.old at form.now }
 {
-    bytes[at] = n;
-}
-
-pub fn put16(bytes: &mut [u8], at: usize, n: u16)
-    requires { at + 2 ≤ length bytes.old }
-    ensures { bytes.new ≡ sets bytes.old at (be16_bytes n) }
-{
-    bytes[at] = (n / 256) as u8;
-    bytes[at + 1] = (n % 256) as u8;
-}
-
-pub fn put32(bytes: &mut [u8], at: usize, n: u32)
-    requires { at + 4 ≤ length bytes.old }
-    ensures { bytes.new ≡ sets bytes.old at (be32_bytes n) }
-{
-    put16(bytes, at, (n / 65536) as u16);
-    put16(bytes, at + 2, (n % 65536) as u16);
-}
-
-pub fn put64(bytes: &mut [u8], at: usize, n: u64)
-    requires { at + 8 ≤ length bytes.old }
-    ensures { bytes.new ≡ sets bytes.old at (be64_bytes n) }
-{
-    put32(bytes, at, (n / 4294967296) as u32);
-    put32(bytes, at + 4, (n % 4294967296) as u32);
+    bytes[at..at + form.len()].copy_from_slice(form);
 }
 
 fn mode_byte(mode: Mode) -> u8
@@ -56,22 +32,11 @@ fn mode_byte(mode: Mode) -> u8
 fn mode_in(byte: u8) -> Mode
     ensures { result ≡ mode_in byte }
 {
-    if byte == 0 {
-        return Mode::Waiting;
+    match byte {
+        0 => Mode::Waiting,
+        1 => Mode::AboutToSend,
+        _ => Mode::Sending,
     }
-    if byte == 1 {
-        return Mode::AboutToSend;
-    }
-    Mode::Sending
-}
-
-fn flag_byte(flag: bool) -> u8
-    ensures { result ≡ flag_byte flag }
-{
-    if flag {
-        return 1;
-    }
-    0
 }
 
 #[tactic(auto, unfolding(crate::specs::RunBytes::node_in))]
@@ -89,14 +54,14 @@ fn node_in(bytes: &[u8], at: usize) -> NodeState
 }
 
 #[tactic(auto, unfolding(crate::specs::RunBytes::last_in))]
-fn last_in(bytes: &[u8]) -> Last
+fn last_in(bytes: &[u8]) -> Option<Slot>
     requires { 291 ≤ length bytes.now }
     ensures { result ≡ last_in bytes.now }
 {
     if bytes[288] == 0 {
-        return Last::Nothing;
+        return None;
     }
-    Last::At(Slot(be16(bytes, 289)))
+    Some(Slot(be16(bytes, 289)))
 }
 
 // The run that bytes spell, its first places and its last message; the other places are fresh.
@@ -104,16 +69,13 @@ pub fn read_run(bytes: &[u8], nodes: usize) -> Run
     requires { (nodes ≤ 32) × (291 ≤ length bytes.now) }
     ensures { result ≡ run_in nodes bytes.now }
 {
-    let blank = fresh();
-    let mut places = blank.nodes;
-    for k in 0..nodes {
-        let node = node_in(bytes, 9 * k);
-        places[k] = node;
+    let mut places = fresh().nodes;
+    for (k, node) in places[..nodes].iter_mut().enumerate() {
+        *node = node_in(bytes, 9 * k);
     }
-    let last = last_in(bytes);
     Run {
         nodes: places,
-        last: last,
+        last: last_in(bytes),
     }
 }
 
@@ -121,27 +83,26 @@ fn write_node(bytes: &mut [u8], at: usize, node: NodeState)
     requires { at + 9 ≤ length bytes.old }
     ensures { bytes.new ≡ sets bytes.old at (node_bytes node) }
 {
-    put8(bytes, at, node.clock.0);
-    put16(bytes, at + 1, node.slot.0);
-    put32(bytes, at + 3, node.time.0);
-    let mode = node.mode;
-    put8(bytes, at + 7, mode_byte(mode));
-    put8(bytes, at + 8, flag_byte(node.pending));
+    put(bytes, at, &[node.clock.0]);
+    put(bytes, at + 1, &node.slot.0.to_be_bytes());
+    put(bytes, at + 3, &node.time.0.to_be_bytes());
+    put(
+        bytes,
+        at + 7,
+        &[mode_byte(node.mode), u8::from(node.pending)],
+    );
 }
 
-fn write_last(bytes: &mut [u8], last: Last)
+fn write_last(bytes: &mut [u8], last: Option<Slot>)
     requires { 291 ≤ length bytes.old }
     ensures { bytes.new ≡ sets bytes.old 288 (last_bytes last) }
 {
     match last {
-        Last::At(slot) => {
-            put8(bytes, 288, 1);
-            put16(bytes, 289, slot.0);
+        Some(slot) => {
+            put(bytes, 288, &[1]);
+            put(bytes, 289, &slot.0.to_be_bytes());
         }
-        Last::Nothing => {
-            put8(bytes, 288, 0);
-            put16(bytes, 289, 0);
-        }
+        None => put(bytes, 288, &[0, 0, 0]),
     }
 }
 
@@ -150,12 +111,10 @@ pub fn write_run(bytes: &mut [u8], nodes: usize, run: Run)
     requires { (nodes ≤ 32) × (291 ≤ length bytes.old) }
     ensures { bytes.new ≡ run_bytes nodes run bytes.old }
 {
-    for k in 0..nodes {
-        let node = run.nodes[k];
-        write_node(bytes, 9 * k, node);
+    for (k, node) in run.nodes[..nodes].iter().enumerate() {
+        write_node(bytes, 9 * k, *node);
     }
-    let last = run.last;
-    write_last(bytes, last);
+    write_last(bytes, run.last);
 }
 
 #[tactic(auto, unfolding(crate::specs::RunBytes::node_wrong))]
@@ -163,21 +122,22 @@ fn node_wrong(bytes: &[u8], at: usize) -> bool
     requires { at + 9 ≤ length bytes.now }
     ensures { result ≡ node_wrong bytes.now at }
 {
-    if 2 < bytes[at + 7] {
-        return true;
-    }
-    1 < bytes[at + 8]
+    2 < bytes[at + 7] || 1 < bytes[at + 8]
+}
+
+// No mode or no mark stands where one of the first places should have it.
+fn some_node_wrong(bytes: &[u8], nodes: usize) -> bool
+    requires { 9 * nodes ≤ length bytes.now }
+    ensures { result ≡ any_below nodes (λ k. node_wrong bytes.now (9 * k)) }
+{
+    (0..nodes).any(|k| node_wrong(bytes, 9 * k))
 }
 
 // The bytes spell no run: no mode or no mark stands where one of the first places or the last message should have it.
+#[tactic(auto, unfolding(crate::specs::RunBytes::spells_no_run))]
 pub fn spells_no_run(bytes: &[u8], nodes: usize) -> bool
     requires { (nodes ≤ 32) × (291 ≤ length bytes.now) }
     ensures { result ≡ spells_no_run nodes bytes.now }
 {
-    for k in 0..nodes {
-        if node_wrong(bytes, 9 * k) {
-            return true;
-        }
-    }
-    1 < bytes[288]
+    some_node_wrong(bytes, nodes) || 1 < bytes[288]
 }

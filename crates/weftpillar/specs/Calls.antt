@@ -1,85 +1,121 @@
--- What each call answers, by its tests in their order, and what it leaves in the buffers lent to it.
-use Rattle.std.specs.Prelude.{ℕ, ◌*◌, not, ◌||◌, List, [], ◌∷◌, length, eqb}
-use Rattle.laws.specs.Row.{given, first_given}
+-- What each call answers, by its tests in their order, and what it leaves in the buffers lent to it: by its answer, and by the number of that.
+use Rattle.std.specs.Prelude.{ℕ, ◌*◌, not, ◌||◌, List, length, eqb, Option, Result, Ok}
+use Rattle.laws.specs.Row.{unless}
+use Rattle.plan.specs.declared.Plan.{Plan}
+use Rattle.rules.specs.declared.Verdict.{Verdict}
 use Rattle.rules.specs.Rules.{verdict_of}
+use Rattle.run.specs.declared.Apart.{Apart}
+use Rattle.run.specs.declared.Run.{Run}
+use Rattle.run.specs.declared.Step.{Step}
+use Rattle.run.specs.declared.Ticks.{Ticks}
 use Rattle.run.specs.State.{fresh_run}
+use Rattle.shown.specs.declared.Given.{Given}
+use Rattle.shown.specs.declared.Place.{Place}
 use Rattle.shown.specs.Shown.{fresh_place}
 use Rattle.step_lines.specs.StepLine.{line_of}
 use Rattle.run_bytes.specs.RunBytes.{run_bytes}
-use Rattle.answer_bytes.specs.Answers.{line_number}
-use Rattle.answer_bytes.specs.Forms.{verdict_bytes, line_bytes}
+use Rattle.answer_bytes.specs.declared.answers.Unanswered.{Unanswered}
+use Rattle.answer_bytes.specs.Answers.{answer_number, or_refused}
+use Rattle.answer_bytes.specs.Forms.{verdict_bytes, step_bytes, apart_bytes, ticks_bytes}
 use Rattle.answer_bytes.specs.Places.{place_bytes}
 use Rattle.byte_calls.specs.Taken.{plan_in}
-use Rattle.byte_calls.specs.TestsAndWrites.{refused_by, leaves, run_tests, step_tests, step_writes, steps_writes, answers_writes, apart_writes, reckon_tests, reckon_writes, next_tests, next_place_writes, next_step_writes}
-use Rattle.weftpillar.specs.Answers.{another_length, other_than, answered}
+use Rattle.byte_calls.specs.TestsAndWrites.{leaves, run_put, step_asked, steps_asked, answers_put, apart_asked, ticks_asked, next_asked, place_put, step_put}
+use Rattle.weftpillar.specs.Answers.{other_than, by_lengths, answered}
 
 -- Judge a plan file.
-unfoldable pub judge_answer : (file verdict : List ℕ) → ℕ
-judge_answer file verdict = answered (other_than 51 verdict) file (λ P. [])
+unfoldable pub judged : (file verdict : List ℕ) → Result Verdict Unanswered
+judged file verdict = answered (other_than 51 verdict) file (λ P. Ok (verdict_of P))
 
-unfoldable pub judge_leaves : (file verdict : List ℕ) → List ℕ
-judge_leaves file verdict = leaves (judge_answer file verdict) (verdict_bytes (verdict_of (plan_in file))) verdict
+abbrev pub judge_answer : (file verdict : List ℕ) → ℕ
+judge_answer file verdict = answer_number (judged file verdict)
+
+abbrev pub judge_leaves : (file verdict : List ℕ) → List ℕ
+judge_leaves file verdict = leaves (judged file verdict) verdict_bytes verdict
 
 -- A fresh run, and a fresh place: all 32 places are written.
-unfoldable pub fresh_answer : List ℕ → ℕ
-fresh_answer run = first_given (given another_length (other_than 291 run) ∷ [])
+unfoldable pub begun : List ℕ → Result Run Unanswered
+begun run = unless (by_lengths (other_than 291 run)) (Ok fresh_run)
 
-unfoldable pub fresh_leaves : List ℕ → List ℕ
-fresh_leaves run = leaves (fresh_answer run) (run_bytes 32 fresh_run run) run
+abbrev pub fresh_answer : List ℕ → ℕ
+fresh_answer run = answer_number (begun run)
 
-unfoldable pub fresh_place_answer : List ℕ → ℕ
-fresh_place_answer place = first_given (given another_length (other_than 292 place) ∷ [])
+abbrev pub fresh_leaves : List ℕ → List ℕ
+fresh_leaves run = leaves (begun run) (λ r. run_bytes 32 r run) run
 
-unfoldable pub fresh_place_leaves : List ℕ → List ℕ
-fresh_place_leaves place = leaves (fresh_place_answer place) (place_bytes 32 fresh_place place) place
+unfoldable pub place_begun : List ℕ → Result Place Unanswered
+place_begun place = unless (by_lengths (other_than 292 place)) (Ok fresh_place)
+
+abbrev pub fresh_place_answer : List ℕ → ℕ
+fresh_place_answer place = answer_number (place_begun place)
+
+abbrev pub fresh_place_leaves : List ℕ → List ℕ
+fresh_place_leaves place = leaves (place_begun place) (λ q. place_bytes 32 q place) place
 
 -- One step on a run: 19, 10, then what a step of this plan answers.
-unfoldable pub step_answer : (file run : List ℕ) → (letter n : ℕ) → ℕ
-step_answer file run letter n = answered (other_than 291 run) file (λ P. step_tests P run letter n)
+unfoldable pub stepped : (file run : List ℕ) → (letter n : ℕ) → Result Run Unanswered
+stepped file run letter n = answered (other_than 291 run) file (λ P. or_refused (step_asked P run letter n))
 
-unfoldable pub step_leaves : (file run : List ℕ) → (letter n : ℕ) → List ℕ
-step_leaves file run letter n = leaves (step_answer file run letter n) (step_writes (plan_in file) run letter n) run
+abbrev pub step_answer : (file run : List ℕ) → (letter n : ℕ) → ℕ
+step_answer file run letter n = answer_number (stepped file run letter n)
+
+abbrev pub step_leaves : (file run : List ℕ) → (letter n : ℕ) → List ℕ
+step_leaves file run letter n = leaves (stepped file run letter n) (run_put (plan_in file) run) run
 
 -- Many steps on a run, as many as there are answers: 10 once, then an answer for each step.
-unfoldable pub steps_answer : (file run steps answers : List ℕ) → ℕ
-steps_answer file run steps answers =
-    answered (other_than 291 run || not (eqb (length steps) (5 * length answers))) file (λ P. run_tests P run)
+unfoldable pub all_stepped : (file run steps answers : List ℕ) → Result Run Unanswered
+all_stepped file run steps answers =
+    answered (other_than 291 run || not (eqb (length steps) (5 * length answers))) file
+    (λ P. or_refused (steps_asked P run steps (length answers)))
 
-unfoldable pub steps_leaves_run : (file run steps answers : List ℕ) → List ℕ
-steps_leaves_run file run steps answers =
-    leaves (steps_answer file run steps answers) (steps_writes (plan_in file) run steps (length answers)) run
+abbrev pub steps_answer : (file run steps answers : List ℕ) → ℕ
+steps_answer file run steps answers = answer_number (all_stepped file run steps answers)
 
-unfoldable pub steps_leaves_answers : (file run steps answers : List ℕ) → List ℕ
+abbrev pub steps_leaves_run : (file run steps answers : List ℕ) → List ℕ
+steps_leaves_run file run steps answers = leaves (all_stepped file run steps answers) (run_put (plan_in file) run) run
+
+abbrev pub steps_leaves_answers : (file run steps answers : List ℕ) → List ℕ
 steps_leaves_answers file run steps answers =
-    leaves (steps_answer file run steps answers) (answers_writes (plan_in file) run steps answers) answers
+    leaves (all_stepped file run steps answers) (answers_put (plan_in file) run steps answers) answers
 
 -- The out-of-step test: 10.
-unfoldable pub apart_answer : (file run answer : List ℕ) → ℕ
-apart_answer file run answer = answered (other_than 291 run || other_than 9 answer) file (λ P. run_tests P run)
+unfoldable pub apart : (file run answer : List ℕ) → Result (Option Apart) Unanswered
+apart file run answer = answered (other_than 291 run || other_than 9 answer) file (λ P. or_refused (apart_asked P run))
 
-unfoldable pub apart_leaves : (file run answer : List ℕ) → List ℕ
-apart_leaves file run answer = leaves (apart_answer file run answer) (apart_writes (plan_in file) run answer) answer
+abbrev pub apart_answer : (file run answer : List ℕ) → ℕ
+apart_answer file run answer = answer_number (apart file run answer)
+
+abbrev pub apart_leaves : (file run answer : List ℕ) → List ℕ
+apart_leaves file run answer = leaves (apart file run answer) apart_bytes answer
 
 -- A node's reckoning: 10, then what the reckoning answers.
-unfoldable pub reckon_answer : (file run : List ℕ) → (i : ℕ) → (ticks : List ℕ) → ℕ
-reckon_answer file run i ticks = answered (other_than 291 run || other_than 4 ticks) file (λ P. reckon_tests P run i)
+unfoldable pub reckoned : (file run : List ℕ) → (i : ℕ) → (ticks : List ℕ) → Result Ticks Unanswered
+reckoned file run i ticks = answered (other_than 291 run || other_than 4 ticks) file (λ P. or_refused (ticks_asked P run i))
 
-unfoldable pub reckon_leaves : (file run : List ℕ) → (i : ℕ) → (ticks : List ℕ) → List ℕ
-reckon_leaves file run i ticks = leaves (reckon_answer file run i ticks) (reckon_writes (plan_in file) run i ticks) ticks
+abbrev pub reckon_answer : (file run : List ℕ) → (i : ℕ) → (ticks : List ℕ) → ℕ
+reckon_answer file run i ticks = answer_number (reckoned file run i ticks)
+
+abbrev pub reckon_leaves : (file run : List ℕ) → (i : ℕ) → (ticks : List ℕ) → List ℕ
+reckon_leaves file run i ticks = leaves (reckoned file run i ticks) ticks_bytes ticks
 
 -- The next step of the shown run: 10, then what the shown run answers at this place, 254 where it is finished.
-unfoldable pub next_answer : (file place step : List ℕ) → ℕ
-next_answer file place step = answered (other_than 292 place || other_than 5 step) file (λ P. next_tests P place)
+unfoldable pub next : (file place step : List ℕ) → Result Given Unanswered
+next file place step = answered (other_than 292 place || other_than 5 step) file (λ P. next_asked P place)
 
-unfoldable pub next_leaves_place : (file place step : List ℕ) → List ℕ
-next_leaves_place file place step = leaves (next_answer file place step) (next_place_writes (plan_in file) place) place
+abbrev pub next_answer : (file place step : List ℕ) → ℕ
+next_answer file place step = answer_number (next file place step)
 
-unfoldable pub next_leaves_step : (file place step : List ℕ) → List ℕ
-next_leaves_step file place step = leaves (next_answer file place step) (next_step_writes (plan_in file) place step) step
+abbrev pub next_leaves_place : (file place step : List ℕ) → List ℕ
+next_leaves_place file place step = leaves (next file place step) (place_put (plan_in file) place) place
+
+abbrev pub next_leaves_step : (file place step : List ℕ) → List ℕ
+next_leaves_step file place step = leaves (next file place step) step_put step
 
 -- A step line to a step: 19.
-unfoldable pub line_answer : (line step : List ℕ) → ℕ
-line_answer line step = first_given (given another_length (other_than 5 step) ∷ refused_by (line_number (line_of line)) ∷ [])
+unfoldable pub line_read : (line step : List ℕ) → Result Step Unanswered
+line_read line step = unless (by_lengths (other_than 5 step)) (or_refused (line_of line))
 
-unfoldable pub line_leaves : (line step : List ℕ) → List ℕ
-line_leaves line step = leaves (line_answer line step) (line_bytes (line_of line) step) step
+abbrev pub line_answer : (line step : List ℕ) → ℕ
+line_answer line step = answer_number (line_read line step)
+
+abbrev pub line_leaves : (line step : List ℕ) → List ℕ
+line_leaves line step = leaves (line_read line step) step_bytes step

@@ -25,13 +25,15 @@ ghost use Rattle.weftpillar.specs.Calls.{
   next_leaves_step,
 };
 
+use weftpillar::answer_number;
+
 // A plan file judged: the verdict, 51 bytes.
 #[unsafe(no_mangle)]
 pub extern "C" fn weftpillar_judge(plan: &[u8], verdict: &mut [u8]) -> u8
     ensures value { result ≡ judge_answer plan.now verdict.old }
     ensures verdict_after { verdict.new ≡ judge_leaves plan.now verdict.old }
 {
-    weftpillar::weftpillar_judge(plan, verdict)
+    answer_number(&weftpillar::weftpillar_judge(plan, verdict))
 }
 
 // A fresh run, 291 bytes.
@@ -40,7 +42,7 @@ pub extern "C" fn weftpillar_fresh(run: &mut [u8]) -> u8
     ensures value { result ≡ fresh_answer run.old }
     ensures run_after { run.new ≡ fresh_leaves run.old }
 {
-    weftpillar::weftpillar_fresh(run)
+    answer_number(&weftpillar::weftpillar_fresh(run))
 }
 
 // One step, by its letter and number: the run moved on in place, or refused and as it was.
@@ -49,7 +51,7 @@ pub extern "C" fn weftpillar_step(plan: &[u8], run: &mut [u8], letter: u8, numbe
     ensures value { result ≡ step_answer plan.now run.old letter number }
     ensures run_after { run.new ≡ step_leaves plan.now run.old letter number }
 {
-    weftpillar::weftpillar_step(plan, run, letter, number)
+    answer_number(&weftpillar::weftpillar_step(plan, run, letter, number))
 }
 
 // Many steps, 5 bytes each, and a byte for the answer of each: the plan and the run are tested once, a refused step is passed over.
@@ -64,7 +66,7 @@ pub extern "C" fn weftpillar_steps(
     ensures run_after { run.new ≡ steps_leaves_run plan.now run.old steps.now answers.old }
     ensures answers_after { answers.new ≡ steps_leaves_answers plan.now run.old steps.now answers.old }
 {
-    weftpillar::weftpillar_steps(plan, run, steps, answers)
+    answer_number(&weftpillar::weftpillar_steps(plan, run, steps, answers))
 }
 
 // Whether the run is out of step, and by which nodes: 9 bytes.
@@ -73,7 +75,7 @@ pub extern "C" fn weftpillar_out_of_step(plan: &[u8], run: &[u8], answer: &mut [
     ensures value { result ≡ apart_answer plan.now run.now answer.old }
     ensures answer_after { answer.new ≡ apart_leaves plan.now run.now answer.old }
 {
-    weftpillar::weftpillar_out_of_step(plan, run, answer)
+    answer_number(&weftpillar::weftpillar_out_of_step(plan, run, answer))
 }
 
 // A node's reckoning of its ticks: 4 bytes.
@@ -82,7 +84,7 @@ pub extern "C" fn weftpillar_reckon(plan: &[u8], run: &[u8], node: u32, ticks: &
     ensures value { result ≡ reckon_answer plan.now run.now node ticks.old }
     ensures ticks_after { ticks.new ≡ reckon_leaves plan.now run.now node ticks.old }
 {
-    weftpillar::weftpillar_reckon(plan, run, node, ticks)
+    answer_number(&weftpillar::weftpillar_reckon(plan, run, node, ticks))
 }
 
 // A step line, its newline included, to a step: 5 bytes.
@@ -91,7 +93,7 @@ pub extern "C" fn weftpillar_line(line: &[u8], step: &mut [u8]) -> u8
     ensures value { result ≡ line_answer line.now step.old }
     ensures step_after { step.new ≡ line_leaves line.now step.old }
 {
-    weftpillar::weftpillar_line(line, step)
+    answer_number(&weftpillar::weftpillar_line(line, step))
 }
 
 // Where a shown run begins, 292 bytes.
@@ -100,7 +102,7 @@ pub extern "C" fn weftpillar_fresh_place(place: &mut [u8]) -> u8
     ensures value { result ≡ fresh_place_answer place.old }
     ensures place_after { place.new ≡ fresh_place_leaves place.old }
 {
-    weftpillar::weftpillar_fresh_place(place)
+    answer_number(&weftpillar::weftpillar_fresh_place(place))
 }
 
 // The next step of the shown run, 5 bytes, and the place moved on; 254 where the run is finished.
@@ -110,5 +112,5 @@ pub extern "C" fn weftpillar_next(plan: &[u8], place: &mut [u8], step: &mut [u8]
     ensures place_after { place.new ≡ next_leaves_place plan.now place.old step.old }
     ensures step_after { step.new ≡ next_leaves_step plan.now place.old step.old }
 {
-    weftpillar::weftpillar_next(plan, place, step)
+    answer_number(&weftpillar::weftpillar_next(plan, place, step))
 }

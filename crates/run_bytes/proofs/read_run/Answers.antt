@@ -1,27 +1,26 @@
-use Rattle.std.proofs.Common.{◌≡◌, ◌*◌, ap, ◌∙◌, length, arith}
-use Rattle.std.proofs.lemmas.List.{length-replicate}
-use Rattle.run.specs.declared.Run.{Run}
+use Rattle.std.proofs.Common.{◌≡◌, take, length, arith}
+use Rattle.std.proofs.lemmas.List.{length-take}
 use Rattle.run.specs.State.{fresh_node, fresh_run}
-use Rattle.laws.specs.Over.{over}
-use Rattle.laws.proofs.Overs.{over_none, over_more}
-use Rattle.run_bytes.specs.RunBytes.{node_in, run_in}
+use Rattle.laws.proofs.Overs.{over_none, over_more, over_end}
+use Rattle.run_bytes.specs.RunBytes.{last_in, run_in}
+use Rattle.run_bytes.proofs.RoundTrip.{fresh_places}
 use Rattle.run_bytes.proofs.read_run.Goals as goal
 
 pub loop-k-init : goal.loop-k-init
-loop-k-init c = over_none _ _
+loop-k-init c = rw c.fresh.ensures (over_none _ _)
 
 pub loop-k-preserved : goal.loop-k-preserved
-unfolding fresh_run
 loop-k-preserved c =
-    let l = c.loop-k in
-    let room : length c.fresh-blank.result.nodes ≡ 32 = ap (λ (r : Run). length r.nodes) c.fresh-blank.ensures ∙ length-replicate 32 fresh_node in
-    over_more l.k _ _ l.places fresh_node c.node_in-node.result (omega arith) l.invariant c.node_in-node.ensures
+    let few = c.requires.0 in
+    let long : length (take c.args.nodes fresh_run.nodes) ≡ c.args.nodes = omega (arith, length-take c.args.nodes fresh_run.nodes, fresh_places) in
+    let same : length (take c.args.nodes c.fresh.result.nodes) ≡ length (take c.args.nodes fresh_run.nodes) = rw c.fresh.ensures in
+    over_more c.loop-k.k _ (take c.args.nodes fresh_run.nodes) _ fresh_node _ (omega arith) c.loop-k.invariant c.node_in.ensures
 
 pub returns : goal.returns
 unfolding run_in fresh_run
 returns c =
-    let a = c.args in
-    let l = c.loop-k in
-    let e : l.k ≡ a.nodes = omega arith in
-    let places : l.places ≡ over a.nodes (λ j x. node_in a.bytes.now (9 * j)) fresh_run.nodes = l.invariant ∙ rw (c.fresh-blank.ensures, e) in
-    rw (run_in, places, c.last_in-last.ensures)
+    let few = c.requires.0 in
+    let long : length (take c.args.nodes fresh_run.nodes) ≡ c.args.nodes = omega (arith, length-take c.args.nodes fresh_run.nodes, fresh_places) in
+    let same : length (take c.args.nodes c.fresh.result.nodes) ≡ length (take c.args.nodes fresh_run.nodes) = rw c.fresh.ensures in
+    let places = over_end c.args.nodes c.loop-k.k _ fresh_run.nodes _ (omega arith) c.loop-k.invariant in
+    rw (c.fresh.ensures, c.last_in.ensures, run_in) (λ j. record { nodes = places j; last = last_in c.args.bytes.now })

@@ -1,4 +1,6 @@
 use Rattle.std.proofs.Common.{◌≡◌, refl, ◌∙◌, arith, rules}
+use Rattle.std.proofs.lemmas.List.{get_or-take, length-take}
+use Rattle.run.specs.State.{fresh_node}
 use Rattle.run_bytes.specs.RunBytes.{run_bytes}
 use Rattle.run_bytes.proofs.Written.{nodes_none, nodes_more}
 use Rattle.run_bytes.proofs.write_run.Goals as goal
@@ -9,7 +11,8 @@ loop-k-init c = (nodes_none _ _, refl)
 pub loop-k-preserved : goal.loop-k-preserved
 loop-k-preserved c =
     let l = c.loop-k in
-    (c.write_node.ensures ∙ rw l.invariant.0 (nodes_more l.k _ _), search rules)
+    let node = get_or-take c.args.nodes c.args.run.nodes l.k fresh_node (omega (arith, length-take c.args.nodes c.args.run.nodes)) in
+    (c.write_node.ensures ∙ rw (l.invariant.0, node) (nodes_more l.k _ _), search rules)
 
 pub returns : goal.returns
 unfolding run_bytes
