@@ -40,12 +40,13 @@ pub fn given_tested(showing: Showing) -> Option<(Step, Showing)>
         return None;
     }
     let step = next_step(showing, seen);
-    let next = Showing {
-        run: moved(showing.run, step),
+    let next = moved(showing.run, step);
+    let after = Showing {
+        run: next,
         parts: showing.parts,
         mark: mark_after(showing, step),
     };
-    Some((step, next))
+    Some((step, after))
 }
 
 // A place of the run that is shown for the rule that fails; none where none fails.

@@ -38,8 +38,8 @@ next_step-step-requires c =
     (looked_on_time P parts q c.in_ok-seen.seen (rw c.from.ensures at c.in_ok-seen.ensures)).1
 
 -- in step and on time, the next step is legal
-pub moved-requires : goal.moved-requires
-moved-requires c =
+pub moved-next-requires : goal.moved-next-requires
+moved-next-requires c =
     let P = c.args.showing.run.plan.plan in
     let parts = c.args.showing.parts in
     let q = place_of c.args.showing in
@@ -56,6 +56,6 @@ returns-clause-given c =
     let together = sym c.is_out.ensures ∙ c.if-is_out.false in
     let legal = next_legal P parts c.args.showing.run.plan.sound q c.args.showing.run.in_range together seen.0 in
     let taken = given_takes P parts q step (sym c.next_step-step.ensures) together seen.0 (rw c.next_step-step.ensures legal) in
-    let moved = c.moved.ensures.run in
+    let moved = c.moved-next.ensures.run in
     let marked = c.mark_after.ensures in
     (λ j. Some (record { step = step; place = record { run = moved j; mark = marked j } })) ∙ sym taken
