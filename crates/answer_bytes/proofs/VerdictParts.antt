@@ -21,12 +21,12 @@ verdict_length v = refl
 
 -- a list with the parts of a verdict put into it, one after the other
 abbrev pub parts_put : List ℕ → Verdict → List ℕ
-parts_put l v = sets (sets (sets (sets (set l 0 (outcome_number v.outcome)) 1 (be16_bytes v.gap.0)) 3 (sides_bytes v.one)) 19 (sides_bytes v.two)) 35 (sides_bytes v.three)
+parts_put l v = sets (sets (sets (sets (set l 0 (outcome_number v.failed)) 1 (be16_bytes v.gap.0)) 3 (sides_bytes v.one)) 19 (sides_bytes v.two)) 35 (sides_bytes v.three)
 
 parts_verdict : (l : List ℕ) (v : Verdict) → parts_put l v ≡ sets l 0 (verdict_bytes v)
 unfolding verdict_bytes sides_bytes
 parts_verdict l v =
-    let head : List ℕ = sets (set l 0 (outcome_number v.outcome)) 1 (be16_bytes v.gap.0) in
+    let head : List ℕ = sets (set l 0 (outcome_number v.failed)) 1 (be16_bytes v.gap.0) in
     let a = sides_length v.one in
     let b = sides_length v.two in
     sets_after (sets head 3 (sides_bytes v.one)) 19 35 (sides_bytes v.two) (sides_bytes v.three) (omega arith)

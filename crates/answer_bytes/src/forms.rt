@@ -10,7 +10,7 @@ fn letter_form(letter: u8, number: u32) -> [u8; 5]
     ensures { result ≡ letter ∷ be32_bytes number }
 {
     let mut form = [letter; 5];
-    put(&mut form, 1, number.to_be_bytes());
+    put(&mut form, 1, &number.to_be_bytes());
     form
 }
 
@@ -32,8 +32,8 @@ pub fn apart_form(apart: Option<Apart>) -> [u8; 9]
     let mut form = [0; 9];
     if let Some(apart) = apart {
         form[0] = 1;
-        put(&mut form, 1, apart.sending.0.to_be_bytes());
-        put(&mut form, 5, apart.elsewhere.0.to_be_bytes());
+        put(&mut form, 1, &apart.sending.0.to_be_bytes());
+        put(&mut form, 5, &apart.elsewhere.0.to_be_bytes());
     }
     form
 }

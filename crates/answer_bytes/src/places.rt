@@ -51,5 +51,5 @@ pub fn write_place(bytes: &mut [u8], nodes: usize, place: Place)
     ensures { bytes.new ≡ place_bytes nodes place bytes.old }
 {
     write_run(bytes, nodes, place.run);
-    put(bytes, 291, [mark_byte(place.mark)]);
+    put(bytes, 291, &[mark_byte(place.mark)]);
 }

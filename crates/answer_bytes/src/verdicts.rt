@@ -19,16 +19,16 @@ fn put_sides(bytes: &mut [u8], at: usize, sides: Sides)
     requires { at + 16 ≤ length bytes.old }
     ensures { bytes.new ≡ sets bytes.old at (sides_bytes sides) }
 {
-    put(bytes, at, sides.left.to_be_bytes());
-    put(bytes, at + 8, sides.right.to_be_bytes());
+    put(bytes, at, &sides.left.to_be_bytes());
+    put(bytes, at + 8, &sides.right.to_be_bytes());
 }
 
 pub fn verdict_form(verdict: Verdict) -> [u8; 51]
     ensures { result ≡ verdict_bytes verdict }
 {
     let mut form = [0; 51];
-    put(&mut form, 0, [outcome_number(verdict.failed)]);
-    put(&mut form, 1, verdict.gap.0.to_be_bytes());
+    put(&mut form, 0, &[outcome_number(verdict.failed)]);
+    put(&mut form, 1, &verdict.gap.0.to_be_bytes());
     put_sides(&mut form, 3, verdict.one);
     put_sides(&mut form, 19, verdict.two);
     put_sides(&mut form, 35, verdict.three);
