@@ -1,10 +1,6 @@
 -- Past due, out of step, or neither: in step and on time the next step is legal (`next_legal`) and needs no test.
-use Rattle.std.proofs.Common.{◌≡◌, None, Some, sym, ap, ◌∙◌, rules}
-use Rattle.std.specs.Option.{option_map}
-use Rattle.run.specs.Moves.{moved}
-use Rattle.shown.specs.declared.Given.{Given}
-use Rattle.shown.specs.declared.Place.{Place}
-use Rattle.shown.specs.Shown.{past_due, place_of, given_with}
+use Rattle.std.proofs.Common.{◌≡◌, None, Some, sym, ◌∙◌, rules}
+use Rattle.shown.specs.Shown.{place_of}
 use Rattle.shown.proofs.Play.{next_legal}
 use Rattle.shown.proofs.Giving.{given_stops, given_late, given_takes}
 use Rattle.shown_look.proofs.Looks.{looked_late, looked_on_time}

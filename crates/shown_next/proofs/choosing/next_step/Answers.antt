@@ -1,5 +1,5 @@
 -- A node about to send, or who ticks first of those due; `chosen_next` says that this is the next step.
-use Rattle.std.proofs.Common.{sym, ap, ◌∙◌}
+use Rattle.std.proofs.Common.{sym, ◌∙◌}
 use Rattle.std.specs.Option.{option_or}
 use Rattle.run.specs.declared.Step.TheVariants.{Delay}
 use Rattle.shown.specs.Shown.{place_of}
