@@ -146,3 +146,7 @@ shown_steps P (suc k) q = and_then (given_of P q) (shown_steps P k (place_left P
 -- The place of a run that is shown, without the plan and the parts.
 abbrev pub place_of : Showing → Place
 place_of showing = record { run = showing.run.run; mark = showing.mark }
+
+-- A step, and the place of a shown run after it, without the plan and the parts.
+abbrev pub given_with : Step × Showing → Given
+given_with taken = record { step = taken.0; place = place_of taken.1 }

@@ -6,7 +6,7 @@ use native.Mathlib.Decide.{ℕ_discrete}
 use native.Mathlib.Omega.{arith}
 use borrow.Author.Tests.{lt-ltb, le-ltb}
 use lib.Dec.{ltb}
-use Rattle.std.specs.Prelude.{Option, None, Some}
+use Rattle.std.specs.Prelude.{Option, None, Some, is_some}
 use Rattle.std.specs.Option.{unwrap_or, option_or, option_map}
 use Rattle.std.specs.Bool.{then_some}
 use Rattle.laws.specs.Below.{first_from}
@@ -80,21 +80,20 @@ module _ (P : Plan) (c : Parts) (q : Place) where
   unfolding looked_of past_due
   on_time_looked h = rw (any_never P.nodes.0 (λ k. ltb (due_time P c q.mark k) (node q.run k).time.0) (λ i l. le-ltb (due_time P c q.mark i) (node q.run i).time.0 (h i l)))
 
--- where a number is one of a node, or none
-none_below : (P : Plan) (i : ℕ) → node_below P i ≡ None → ltb i P.nodes.0 ≡ false
-none_below P i e = go (ltb i P.nodes.0) refl e
+node_is : (P : Plan) (i : ℕ) → is_some (node_below P i) ≡ ltb i P.nodes.0
+node_is P i = go (ltb i P.nodes.0)
   where
-    go : (b : Bool) → ltb i P.nodes.0 ≡ b → ◌≡◌ {A = Option Node} (cond b (Some (record { 0 = i })) None) None → ltb i P.nodes.0 ≡ false
-    go true l z = cc
-    go false l z = l
+    go : (b : Bool) → is_some {T = Node} (cond b (Some (record { 0 = i })) None) ≡ b
+    go true = refl
+    go false = refl
 
 -- where nobody was seen sending, the run is not out of step
-pub silent_in_step : (P : Plan) (c : Parts) (q : Place) (seen : Seen) → seen ≡ seen_from P c q 0 → seen.sending ≡ None → is_out_of_step P q.run ≡ false
+pub silent_in_step : (P : Plan) (c : Parts) (q : Place) (seen : Seen) → seen ≡ seen_from P c q 0 → is_some seen.sending ≡ false → is_out_of_step P q.run ≡ false
 unfolding seen_from is_out_of_step sends_apart
 silent_in_step P c q seen e n = any_never P.nodes.0 (sends_apart P q.run) (λ i l. rw (first_is_none P.nodes.0 (λ k. is_sending (node q.run k).mode) none i l))
   where
     none : ltb (first_from (λ k. is_sending (node q.run k).mode) P.nodes.0 0) P.nodes.0 ≡ false
-    none = let z : P.nodes.0 - 0 ≡ P.nodes.0 = omega arith in rw z at (none_below P _ (sym (ap (λ (x : Seen). x.sending) e) ∙ n))
+    none = let z : P.nodes.0 - 0 ≡ P.nodes.0 = omega arith in rw z at (sym (node_is P _) ∙ ap (λ (x : Seen). is_some x.sending) (sym e) ∙ n)
 
 -- the step that was seen, where `wait` is the time to the first due moment
 abbrev pub chosen : Seen → Time → Step
@@ -120,18 +119,18 @@ chosen_next P c q seen e = let z : P.nodes.0 - 0 ≡ P.nodes.0 = omega arith in
 
 -- what a look round tells
 module _ (P : Plan) (parts : Parts) (q : Place) where
-  pub looked_late : looked_of P parts q ≡ None → past_due P parts q ≡ true
+  pub looked_late : None ≡ looked_of P parts q → past_due P parts q ≡ true
   unfolding looked_of
   looked_late e = go (past_due P parts q) refl e
     where
-      go : (b : Bool) → past_due P parts q ≡ b → ◌≡◌ {A = Option Seen} (cond b None (Some (seen_from P parts q 0))) None → past_due P parts q ≡ true
+      go : (b : Bool) → past_due P parts q ≡ b → ◌≡◌ {A = Option Seen} None (cond b None (Some (seen_from P parts q 0))) → past_due P parts q ≡ true
       go true h z = h
       go false h z = cc
 
-  pub looked_on_time : (seen : Seen) → looked_of P parts q ≡ Some seen → (past_due P parts q ≡ false) × (seen ≡ seen_from P parts q 0)
+  pub looked_on_time : (seen : Seen) → Some seen ≡ looked_of P parts q → (past_due P parts q ≡ false) × (seen ≡ seen_from P parts q 0)
   unfolding looked_of
   looked_on_time seen e = go (past_due P parts q) refl e
     where
-      go : (b : Bool) → past_due P parts q ≡ b → cond b None (Some (seen_from P parts q 0)) ≡ Some seen → (past_due P parts q ≡ false) × (seen ≡ seen_from P parts q 0)
+      go : (b : Bool) → past_due P parts q ≡ b → Some seen ≡ cond b None (Some (seen_from P parts q 0)) → (past_due P parts q ≡ false) × (seen ≡ seen_from P parts q 0)
       go true h z = cc
       go false h z = (h, cc)

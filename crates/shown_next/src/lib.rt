@@ -3,93 +3,81 @@
 
 mod choosing;
 
-ghost use Rattle.std.specs.Prelude.{◌≡◌, true, ◌<◌};
-ghost use Rattle.plan.specs.Tested.{plan_number, Sound};
-ghost use Rattle.run.specs.State.{in_range, is_out_of_step};
-ghost use Rattle.shown.specs.Shown.{stays, given_by, given_of};
+ghost use Rattle.std.specs.Prelude.{◌≡◌, IfSome};
+ghost use Rattle.std.specs.Option.{option_map};
+ghost use Rattle.run.specs.State.{is_out_of_step};
+ghost use Rattle.shown.specs.Parts.{parts_for};
+ghost use Rattle.shown.specs.Shown.{given_by, given_of, place_of, given_with};
 ghost use Rattle.shown_look.specs.Looking.{seen_from};
 
 use choosing::{mark_after, next_step};
 use elsewhere::is_out_of_step;
-use plan::{Plan, RUN_OUTSIDE, plan_number};
-use rules::{Outcome, prepare};
-use run::{Run, in_range};
-use shown::{Given, Mark, Next, Parts, Place};
-use shown_look::{Looked, Seen, look_round};
+use plan::{Plan, Refusal};
+use rules::{Prepared, prepare};
+use run::{Step, TestedRun};
+use shown::{Given, Mark, Place, Showing};
+use shown_look::{Seen, look_round};
 use shown_parts::parts_tested;
 use steps::moved;
 
-// No step: the answer, and the place as it was.
-fn stays(next: Next, place: Place) -> Given
-    ensures { result ≡ stays next place }
-{
-    Given {
-        next: next,
-        place: place,
-    }
-}
-
 // Out of step, of a run in which these were seen: only where somebody sends need anyone be asked.
-fn is_out(plan: Plan, parts: Parts, run: Run, mark: Mark, seen: Seen) -> bool
-    requires sound { Sound plan }
-    requires seen_value { seen ≡ seen_from plan parts (record { run = run; mark = mark }) 0 }
-    ensures { result ≡ is_out_of_step plan run }
+fn is_out(showing: Showing, seen: Seen) -> bool
+    requires { seen ≡ seen_from showing.run.plan.plan showing.parts (place_of showing) 0 }
+    ensures { result ≡ is_out_of_step showing.run.plan.plan showing.run.run }
 {
-    if seen.sending.0 < plan.nodes.0 {
-        return is_out_of_step(plan, run);
-    }
-    false
+    seen.sending.is_some() && is_out_of_step(showing.run.plan, showing.run.run)
 }
 
-// The next step of a plan that passed 1 to 9 and fails a rule with these parts, at a place that passed 10.
-// The place after it passes 10 again, so step follows step with no test of either, at a cost that goes by N alone.
-// In step and with no time past due, the step is legal and needs no test of its own.
-pub fn given_tested(plan: Plan, parts: Parts, place: Place) -> Given
-    requires plan_value { plan_number plan ≡ 0 }
-    requires sender_lt_nodes { parts.sender.0 < plan.nodes.0 }
-    requires run_value { in_range plan place.run ≡ true }
-    ensures { (result ≡ given_by plan parts place) × (in_range plan result.place.run ≡ true) }
+// The next step, and the place after it; none where the run is finished.
+// Step follows step with no test of plan or run, at a cost that goes by N alone. In step and with no time past due, the step
+// is legal and needs no test of its own.
+pub fn given_tested(showing: Showing) -> Option<(Step, Showing)>
+    ensures given { option_map given_with result ≡ given_by showing.run.plan.plan showing.parts (place_of showing) }
+    ensures same { IfSome result (λ taken. (taken.1.run.plan.plan ≡ showing.run.plan.plan) × (taken.1.parts ≡ showing.parts)) }
 {
-    let run = place.run;
-    let mark = place.mark;
-    let looked = look_round(plan, parts, run, mark);
-    let Looked::OnTime(seen) = looked else {
-        return stays(Next::Finished, place);
-    };
-    if is_out(plan, parts, run, mark, seen) {
-        return stays(Next::Finished, place);
+    let seen = look_round(showing.run.plan, showing.parts, Place::from(showing))?;
+    if is_out(showing, seen) {
+        return None;
     }
-    let step = next_step(plan, parts, run, mark, seen);
-    let turned = mark_after(plan, parts, run, mark, step);
-    let next = moved(plan, run, step);
-    let after = Place {
+    let step = next_step(showing, seen);
+    let next = moved(showing.run, step);
+    let after = Showing {
         run: next,
-        mark: turned,
+        parts: showing.parts,
+        mark: mark_after(showing, step),
     };
-    Given {
-        next: Next::Takes(step),
-        place: after,
-    }
+    Some((step, after))
+}
+
+// A place of the run that is shown for the rule that fails; none where none fails.
+pub fn showing(prepared: Prepared, run: TestedRun, mark: Mark) -> Option<Showing>
+    requires { run.plan.plan ≡ prepared.plan.plan }
+    ensures parts { option_map (λ shown. shown.parts) result ≡ option_map (parts_for run.plan.plan) prepared.verdict.failed }
+    ensures same { IfSome result (λ shown. (shown.run.plan.plan ≡ run.plan.plan) × (place_of shown ≡ record { run = run.run; mark = mark })) }
+{
+    let rule = prepared.verdict.failed?;
+    Some(Showing {
+        run: run,
+        parts: parts_tested(prepared, rule),
+        mark: mark,
+    })
 }
 
 // The next step of the shown run of any plan at any place.
 #[tactic(auto, unfolding(shown::specs::Shown::given_of, shown::specs::Shown::given_for))]
-pub fn next_shown(plan: Plan, place: Place) -> Given
+pub fn next_shown(plan: Plan, place: Place) -> Result<Option<Given>, Refusal>
     ensures { result ≡ given_of plan place }
 {
-    let number = plan_number(plan);
-    if number != 0 {
-        return stays(Next::Refused(number), place);
-    }
-    if !in_range(plan, place.run) {
-        return stays(Next::Refused(RUN_OUTSIDE), place);
-    }
-    let prepared = prepare(plan);
-    let verdict = prepared.verdict;
-    let outcome = verdict.outcome;
-    let Outcome::Fails(rule) = outcome else {
-        return stays(Next::Finished, place);
+    let tested = plan.tested()?;
+    let run = place.run.tested(tested)?;
+    let Some(shown) = showing(prepare(tested), run, place.mark) else {
+        return Ok(None);
     };
-    let parts = parts_tested(plan, prepared.distances, verdict.gap, rule);
-    given_tested(plan, parts, place)
+    let Some((step, after)) = given_tested(shown) else {
+        return Ok(None);
+    };
+    Ok(Some(Given {
+        step: step,
+        place: Place::from(after),
+    }))
 }

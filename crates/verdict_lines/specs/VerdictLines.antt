@@ -1,13 +1,10 @@
 -- The five lines of a verdict, each whole with its newline.
-use Rattle.std.specs.Prelude.{ℕ, cond, List, ◌++◌}
+use Rattle.std.specs.Prelude.{ℕ, cond, List, ◌++◌, Option, None, Some, Result, Ok, Err}
+use Rattle.plan.specs.declared.refusal.Refusal.{Refusal}
 use Rattle.rules.specs.declared.Rule.{Rule}
 use Rattle.rules.specs.declared.Rule.TheVariants.{One, Two, Three}
 use Rattle.rules.specs.declared.Sides.{Sides}
-use Rattle.rules.specs.declared.Outcome.{Outcome}
-use Rattle.rules.specs.declared.Outcome.TheVariants.{Accepted, Fails}
 use Rattle.rules.specs.declared.Verdict.{Verdict}
-use Rattle.rules.specs.declared.Judged.{Judged}
-use Rattle.rules.specs.declared.Judged.TheVariants.{Gives, Refused}
 use Rattle.rules.specs.Rules.{rule_number, holds}
 use Rattle.text.specs.Text.{bytes, numbered, ended}
 use Rattle.lines.specs.Lines.{refused_line}
@@ -22,16 +19,16 @@ rule_line rule s =
     numbered "rule " (rule_number rule) ++ numbered " " s.left ++ numbered " " s.right ++ cond (holds s) (bytes " holds\n") (bytes " fails\n")
 
 -- The verdict line: in step, or the first rule that fails.
-abbrev pub outcome_line : Outcome → List ℕ
-outcome_line Accepted = bytes "verdict in step\n"
-outcome_line (Fails rule) = ended "verdict rule " (rule_number rule)
+abbrev pub outcome_line : Option Rule → List ℕ
+outcome_line None = bytes "verdict in step\n"
+outcome_line (Some rule) = ended "verdict rule " (rule_number rule)
 
 -- The five lines of a verdict of a plan with N nodes.
 abbrev pub verdict_lines : ℕ → Verdict → List ℕ
 verdict_lines N v =
-    head_line N v.gap.0 ++ rule_line One v.one ++ rule_line Two v.two ++ rule_line Three v.three ++ outcome_line v.outcome
+    head_line N v.gap.0 ++ rule_line One v.one ++ rule_line Two v.two ++ rule_line Three v.three ++ outcome_line v.failed
 
 -- What the judging program writes of a plan before any shown run.
-unfoldable pub judged_text : ℕ → Judged → List ℕ
-judged_text N (Gives v) = verdict_lines N v
-judged_text N (Refused n) = refused_line n
+unfoldable pub judged_text : ℕ → Result Verdict Refusal → List ℕ
+judged_text N (Ok v) = verdict_lines N v
+judged_text N (Err refusal) = refused_line refusal

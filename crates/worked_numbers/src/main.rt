@@ -3,175 +3,262 @@
 // g + t + 2 above k0, and for the third a smaller pair is accepted too.
 #![tactic(auto)]
 
-use case_lines::{plan_by, slots_in_order, write_number, write_word};
-use plan::{Node, Plan, Slot};
-use rules::{Judged, Outcome};
-use std::io;
+use case_lines::slots_in_order;
+use plan::{Node, Plan, Refusal, Slot, Tick, Time};
+use rules::Rule;
+use std::{fmt, io};
 
-// N, C, n, k0, g, t; the source's min, whose max is one more; the table's number. Node i sends in slot i.
-const COLUMNS: [[u32; 10]; 20] = [
-    [3, 6, 4, 10, 2, 2, 39, 2, 0, 0],
-    [3, 8, 4, 10, 2, 2, 59, 2, 0, 0],
-    [3, 10, 4, 10, 2, 2, 79, 2, 0, 0],
-    [4, 6, 4, 10, 2, 2, 29, 2, 0, 0],
-    [4, 8, 4, 10, 2, 2, 49, 2, 0, 0],
-    [4, 10, 4, 10, 2, 2, 69, 2, 0, 0],
-    [3, 6, 4, 5, 2, 2, 19, 4, 0, 0],
-    [3, 6, 4, 10, 2, 2, 39, 4, 0, 0],
-    [3, 6, 4, 15, 2, 2, 59, 4, 0, 0],
-    [3, 6, 4, 20, 2, 2, 79, 4, 0, 0],
-    [4, 6, 4, 5, 2, 2, 14, 4, 0, 0],
-    [4, 6, 4, 10, 2, 2, 29, 4, 0, 0],
-    [4, 6, 4, 15, 2, 2, 44, 4, 0, 0],
-    [4, 6, 4, 20, 2, 2, 79, 4, 0, 0],
-    [3, 6, 4, 10, 2, 2, 39, 5, 0, 0],
-    [3, 6, 4, 10, 3, 3, 19, 5, 0, 0],
-    [3, 6, 4, 10, 4, 4, 13, 5, 0, 0],
-    [4, 6, 4, 10, 2, 2, 29, 5, 0, 0],
-    [4, 6, 4, 10, 3, 3, 14, 5, 0, 0],
-    [4, 6, 4, 10, 4, 4, 9, 5, 0, 0],
-];
-
-// N, C, n, k0, g, t, min, max; what comes out: M and the number of the failed rule (0: accepted), or 0 and 100 more than
-// the refusal.
-const CASES: [[u32; 10]; 18] = [
-    [3, 6, 4, 10, 2, 2, 39, 40, 4, 0],
-    [3, 6, 4, 10, 2, 2, 38, 39, 4, 1],
-    [4, 6, 4, 10, 2, 2, 29, 30, 3, 0],
-    [4, 6, 4, 10, 2, 2, 28, 29, 3, 1],
-    [3, 6, 4, 10, 3, 3, 19, 20, 4, 0],
-    [3, 6, 4, 10, 3, 3, 18, 19, 4, 1],
-    [4, 6, 4, 10, 4, 4, 9, 10, 3, 0],
-    [3, 8, 4, 10, 2, 2, 59, 60, 6, 0],
-    [10, 1129, 10, 29, 3, 2, 999980, 1000020, 1120, 0],
-    [10, 1129, 10, 29, 2, 2, 999980, 1000020, 1120, 1],
-    [10, 1129, 10, 29, 3, 1, 999980, 1000020, 1120, 3],
-    // with g = 1 rule 1 fails, however good the clocks
-    [3, 6, 4, 10, 1, 2, 40, 40, 4, 1],
-    [4, 6, 4, 10, 1, 7, 2000000, 2000000, 3, 1],
-    [3, 3, 3, 5, 1, 2, 1, 1, 1, 1],
-    // g + t + 2 is k0, and one more
-    [3, 6, 4, 10, 4, 4, 40, 40, 4, 0],
-    [3, 6, 4, 10, 4, 5, 40, 40, 0, 105],
-    [3, 6, 4, 10, 5, 3, 40, 40, 4, 0],
-    [3, 6, 4, 10, 5, 4, 40, 40, 0, 105],
-];
-
-fn outcome_number(outcome: Outcome) -> u32 {
-    match outcome {
-        Outcome::Accepted => 0,
-        Outcome::Fails(rule) => rules::rule_number(rule) as u32,
-    }
+// N, C, n, k0, g, t of a plan whose node i sends in slot i.
+#[derive(Clone, Copy)]
+struct Shape {
+    nodes: Node,
+    frame: Slot,
+    active: Slot,
+    ticks: Tick,
+    guard: Tick,
+    tail: Tick,
 }
 
-// 0 where the plan is accepted, the failed rule's number, or 100 more than the refusal.
-fn judged_number(judged: Judged) -> u32 {
-    match judged {
-        Judged::Gives(verdict) => {
-            let outcome = verdict.outcome;
-            outcome_number(outcome)
+impl Shape {
+    fn of(nodes: u32, frame: u16, active: u16, ticks: u8, guard: u8, tail: u8) -> Self {
+        Self {
+            nodes: Node(nodes),
+            frame: Slot(frame),
+            active: Slot(active),
+            ticks: Tick(ticks),
+            guard: Tick(guard),
+            tail: Tick(tail),
         }
-        Judged::Refused(k) => 100 + k as u32,
     }
 }
 
-fn gap_number(judged: Judged) -> u32 {
-    match judged {
-        Judged::Gives(verdict) => verdict.gap.0 as u32,
-        Judged::Refused(_) => 0,
+impl fmt::Display for Shape {
+    fn fmt<W: fmt::Write>(&self, f: &mut fmt::Formatter<W>) -> fmt::Result {
+        write!(
+            f,
+            "N {} C {} k0 {}",
+            self.nodes.0, self.frame.0, self.ticks.0
+        )?;
+        write!(f, " g {} t {}", self.guard.0, self.tail.0)
     }
+}
+
+fn plan_of(shape: Shape, min: u32, max: u32) -> Plan {
+    Plan {
+        nodes: shape.nodes,
+        frame: shape.frame,
+        active: shape.active,
+        ticks: shape.ticks,
+        guard: shape.guard,
+        tail: shape.tail,
+        min: Time(min),
+        max: Time(max),
+        slots: slots_in_order(shape.nodes, Slot(65535)),
+    }
+}
+
+// What the rules make of a plan: M, and the rule that fails, if one does.
+#[derive(Clone, Copy, PartialEq, Eq)]
+struct Outcome {
+    gap: Slot,
+    failed: Option<Rule>,
+}
+
+fn accepted(gap: u16) -> Result<Outcome, Refusal> {
+    Ok(Outcome {
+        gap: Slot(gap),
+        failed: None,
+    })
+}
+
+fn fails(gap: u16, rule: Rule) -> Result<Outcome, Refusal> {
+    Ok(Outcome {
+        gap: Slot(gap),
+        failed: Some(rule),
+    })
+}
+
+fn judged(plan: Plan) -> Result<Outcome, Refusal> {
+    let verdict = rules::judge(plan)?;
+    Ok(Outcome {
+        gap: verdict.gap,
+        failed: verdict.failed,
+    })
+}
+
+// A column of a table of the source: its min, whose max is one more.
+#[derive(Clone, Copy)]
+struct Column {
+    table: u32,
+    min: u32,
+    shape: Shape,
+}
+
+impl Column {
+    fn of(table: u32, min: u32, shape: Shape) -> Self {
+        Self { table, min, shape }
+    }
+}
+
+// A plan of document 01, and what comes out.
+#[derive(Clone, Copy)]
+struct Case {
+    min: u32,
+    max: u32,
+    shape: Shape,
+    outcome: Result<Outcome, Refusal>,
+}
+
+impl Case {
+    fn of(min: u32, max: u32, shape: Shape, outcome: Result<Outcome, Refusal>) -> Self {
+        Self {
+            min,
+            max,
+            shape,
+            outcome,
+        }
+    }
+}
+
+fn columns() -> [Column; 20] {
+    [
+        Column::of(2, 39, Shape::of(3, 6, 4, 10, 2, 2)),
+        Column::of(2, 59, Shape::of(3, 8, 4, 10, 2, 2)),
+        Column::of(2, 79, Shape::of(3, 10, 4, 10, 2, 2)),
+        Column::of(2, 29, Shape::of(4, 6, 4, 10, 2, 2)),
+        Column::of(2, 49, Shape::of(4, 8, 4, 10, 2, 2)),
+        Column::of(2, 69, Shape::of(4, 10, 4, 10, 2, 2)),
+        Column::of(4, 19, Shape::of(3, 6, 4, 5, 2, 2)),
+        Column::of(4, 39, Shape::of(3, 6, 4, 10, 2, 2)),
+        Column::of(4, 59, Shape::of(3, 6, 4, 15, 2, 2)),
+        Column::of(4, 79, Shape::of(3, 6, 4, 20, 2, 2)),
+        Column::of(4, 14, Shape::of(4, 6, 4, 5, 2, 2)),
+        Column::of(4, 29, Shape::of(4, 6, 4, 10, 2, 2)),
+        Column::of(4, 44, Shape::of(4, 6, 4, 15, 2, 2)),
+        Column::of(4, 79, Shape::of(4, 6, 4, 20, 2, 2)),
+        Column::of(5, 39, Shape::of(3, 6, 4, 10, 2, 2)),
+        Column::of(5, 19, Shape::of(3, 6, 4, 10, 3, 3)),
+        Column::of(5, 13, Shape::of(3, 6, 4, 10, 4, 4)),
+        Column::of(5, 29, Shape::of(4, 6, 4, 10, 2, 2)),
+        Column::of(5, 14, Shape::of(4, 6, 4, 10, 3, 3)),
+        Column::of(5, 9, Shape::of(4, 6, 4, 10, 4, 4)),
+    ]
+}
+
+// The numbers to check.
+fn cases() -> [Case; 11] {
+    [
+        Case::of(39, 40, Shape::of(3, 6, 4, 10, 2, 2), accepted(4)),
+        Case::of(38, 39, Shape::of(3, 6, 4, 10, 2, 2), fails(4, Rule::One)),
+        Case::of(29, 30, Shape::of(4, 6, 4, 10, 2, 2), accepted(3)),
+        Case::of(28, 29, Shape::of(4, 6, 4, 10, 2, 2), fails(3, Rule::One)),
+        Case::of(19, 20, Shape::of(3, 6, 4, 10, 3, 3), accepted(4)),
+        Case::of(18, 19, Shape::of(3, 6, 4, 10, 3, 3), fails(4, Rule::One)),
+        Case::of(9, 10, Shape::of(4, 6, 4, 10, 4, 4), accepted(3)),
+        Case::of(59, 60, Shape::of(3, 8, 4, 10, 2, 2), accepted(6)),
+        Case::of(
+            999980,
+            1000020,
+            Shape::of(10, 1129, 10, 29, 3, 2),
+            accepted(1120),
+        ),
+        Case::of(
+            999980,
+            1000020,
+            Shape::of(10, 1129, 10, 29, 2, 2),
+            fails(1120, Rule::One),
+        ),
+        Case::of(
+            999980,
+            1000020,
+            Shape::of(10, 1129, 10, 29, 3, 1),
+            fails(1120, Rule::Three),
+        ),
+    ]
+}
+
+// Plans beside an edge.
+fn edge_cases() -> [Case; 7] {
+    [
+        // with g = 1 rule 1 fails, however good the clocks
+        Case::of(40, 40, Shape::of(3, 6, 4, 10, 1, 2), fails(4, Rule::One)),
+        Case::of(
+            2000000,
+            2000000,
+            Shape::of(4, 6, 4, 10, 1, 7),
+            fails(3, Rule::One),
+        ),
+        Case::of(1, 1, Shape::of(3, 3, 3, 5, 1, 2), fails(1, Rule::One)),
+        // g + t + 2 is k0, and one more
+        Case::of(40, 40, Shape::of(3, 6, 4, 10, 4, 4), accepted(4)),
+        Case::of(
+            40,
+            40,
+            Shape::of(3, 6, 4, 10, 4, 5),
+            Err(Refusal::GuardOrTailWrong),
+        ),
+        Case::of(40, 40, Shape::of(3, 6, 4, 10, 5, 3), accepted(4)),
+        Case::of(
+            40,
+            40,
+            Shape::of(3, 6, 4, 10, 5, 4),
+            Err(Refusal::GuardOrTailWrong),
+        ),
+    ]
 }
 
 fn same(rt: &impl Print, yes: bool) -> io::Result<()> {
-    if yes {
-        write_word(rt, b" same\n")
-    } else {
-        write_word(rt, b" DIFFERS\n")
+    println!(rt; " {}", if yes { "same" } else { "DIFFERS" })
+}
+
+fn outcome_word(rt: &impl Print, outcome: Result<Outcome, Refusal>) -> io::Result<()> {
+    match outcome.map(|outcome| outcome.failed) {
+        Ok(None) => print!(rt; " accepted"),
+        Ok(Some(rule)) => print!(rt; " rule {}", rule.number()),
+        Err(refusal) => print!(rt; " {refusal}"),
     }
 }
 
-fn judged_word(rt: &impl Print, n: u32) -> io::Result<()> {
-    if n == 0 {
-        return write_word(rt, b" accepted");
+fn case_line(rt: &impl Print, case: Case) -> io::Result<()> {
+    let outcome = judged(plan_of(case.shape, case.min, case.max));
+    let gap = outcome.map_or(0, |outcome| outcome.gap.0);
+    print!(rt; "case {} {}/{}: gap {gap}", case.shape, case.min, case.max)?;
+    outcome_word(rt, outcome)?;
+    same(rt, outcome == case.outcome)
+}
+
+fn judged_from(shape: Shape, min: u32) -> Result<Outcome, Refusal> {
+    judged(plan_of(shape, min, min.saturating_add(1)))
+}
+
+// The smallest min below 1,000 with which the rules accept min and min + 1.
+fn smallest(shape: Shape) -> Option<u32> {
+    (1..1000).find(|min| judged_from(shape, *min).is_ok_and(|outcome| outcome.failed.is_none()))
+}
+
+fn column_line(rt: &impl Print, column: Column) -> io::Result<()> {
+    print!(rt;
+        "table {} {}: source {}",
+        column.table, column.shape, column.min
+    )?;
+    outcome_word(rt, judged_from(column.shape, column.min))?;
+    let found = smallest(column.shape);
+    match found {
+        Some(min) => print!(rt; ", smallest {min}")?,
+        None => print!(rt; ", smallest none")?,
     }
-    if n < 100 {
-        return write_number(rt, b" rule ", n);
-    }
-    write_number(rt, b" refused ", n - 100)
-}
-
-// A row begins with N, C, n, k0, g, t.
-fn plan_of(c: [u32; 10], min: u32, max: u32) -> Plan {
-    let slots = slots_in_order(Node(c[0]), Slot(65535));
-    plan_by([c[0], c[1], c[2], c[3], c[4], c[5], min, max], slots)
-}
-
-fn plan_words(rt: &impl Print, c: [u32; 10]) -> io::Result<()> {
-    write_number(rt, b" N ", c[0])?;
-    write_number(rt, b" C ", c[1])?;
-    write_number(rt, b" k0 ", c[3])?;
-    write_number(rt, b" g ", c[4])?;
-    write_number(rt, b" t ", c[5])
-}
-
-fn case(rt: &impl Print, c: [u32; 10]) -> io::Result<()> {
-    let judged = rules::judge(plan_of(c, c[6], c[7]));
-    let gap = gap_number(judged);
-    let outcome = judged_number(judged);
-    write_word(rt, b"case")?;
-    plan_words(rt, c)?;
-    write_number(rt, b" ", c[6])?;
-    write_number(rt, b"/", c[7])?;
-    write_number(rt, b": gap ", gap)?;
-    judged_word(rt, outcome)?;
-    same(rt, gap == c[8] && outcome == c[9])
-}
-
-fn one_more(n: u32) -> u32 {
-    if n < 2000000 { n + 1 } else { n }
-}
-
-fn column_judged(c: [u32; 10], min: u32) -> u32 {
-    judged_number(rules::judge(plan_of(c, min, one_more(min))))
-}
-
-// The smallest min below 1,000 with which the rules accept min and min + 1; 1,000 where there is none.
-fn smallest(c: [u32; 10]) -> u32 {
-    for min in 1..1000 {
-        if column_judged(c, min) == 0 {
-            return min;
-        }
-    }
-    1000
-}
-
-fn smallest_word(rt: &impl Print, found: u32) -> io::Result<()> {
-    if found < 1000 {
-        return write_number(rt, b", smallest ", found);
-    }
-    write_word(rt, b", smallest none")
-}
-
-fn column(rt: &impl Print, c: [u32; 10]) -> io::Result<()> {
-    write_number(rt, b"table ", c[7])?;
-    plan_words(rt, c)?;
-    write_number(rt, b": source ", c[6])?;
-    judged_word(rt, column_judged(c, c[6]))?;
-    let found = smallest(c);
-    smallest_word(rt, found)?;
-    same(rt, found == c[6])
+    same(rt, found == Some(column.min))
 }
 
 fn main(rt: HostRuntime) -> io::Result<()> {
-    let cases = CASES;
-    for i in 0..18 {
-        let c = cases[i];
-        case(&rt, c)?;
+    for case in cases() {
+        case_line(&rt, case)?;
     }
-    let columns = COLUMNS;
-    for i in 0..20 {
-        let c = columns[i];
-        column(&rt, c)?;
+    for case in edge_cases() {
+        case_line(&rt, case)?;
+    }
+    for column in columns() {
+        column_line(&rt, column)?;
     }
     Ok(())
 }

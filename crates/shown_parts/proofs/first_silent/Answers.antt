@@ -1,12 +1,10 @@
-use Rattle.std.proofs.Common.{sym, ◌&&◌, arith, rules}
-use Rattle.laws.proofs.Belows.{first_at, first_none}
-use Rattle.shown.specs.Parts.{silent_in}
+use Rattle.std.proofs.Common.{rules, tests, eqb, not, ◌&&◌, ◌∙◌}
+use Rattle.std.proofs.lemmas.Iterator.{YieldsList-from_slice}
+use Rattle.laws.proofs.Chains.{position_in, first_or_end}
+use Rattle.plan.specs.declared.Slot.{Slot}
 use Rattle.shown_parts.proofs.first_silent.Goals as goal
-
-pub returns-then-is_silent : goal.returns-then-is_silent
-returns-then-is_silent c =
-    sym (first_at c.args.plan.nodes.0 c.loop-i.i (λ k. silent_in c.args.plan c.args.p.0 k && silent_in c.args.plan c.args.s.0 k) (search rules) c.loop-i.invariant (cc))
 
 pub returns : goal.returns
 returns c =
-    sym (first_none c.args.plan.nodes.0 (λ k. silent_in c.args.plan c.args.p.0 k && silent_in c.args.plan c.args.s.0 k) (λ k l. c.loop-i.invariant k (omega arith)))
+    c.unwrap_or.ensures
+    ∙ first_or_end _ _ (position_in (λ (own : Slot). not (eqb own.0 c.args.p.0) && not (eqb own.0 c.args.s.0)) c.args.plan.plan.slots c.args.plan.plan.nodes.0 (record { 0 = 0 }) _ _ (search rules) c.position-found.ensures.ran (YieldsList-from_slice _ cc) (λ x b q k. search (rules, tests)))

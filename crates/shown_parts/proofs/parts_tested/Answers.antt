@@ -4,47 +4,19 @@ use Rattle.std.proofs.Common.{ap, ◌∙◌, ◌&&◌, arith}
 use mathlib.Core.Bool.{and_self}
 use Rattle.laws.specs.Below.{first_below}
 use Rattle.plan.specs.Sending.{own}
-use Rattle.plan.proofs.Sound.{sound}
 use Rattle.shown.specs.Parts.{silent_in, parts_with, parts_for}
 use Rattle.shown.proofs.Casting.{widest}
 use Rattle.shown_parts.proofs.parts_tested.Goals as goal
 
-pub widest_from-p-requires-clause-sound : goal.widest_from-p-requires-clause-sound
-widest_from-p-requires-clause-sound c = sound c.args.plan c.requires.plan_value
-
-pub widest_node-fast-requires-clause-sound : goal.widest_node-fast-requires-clause-sound
-widest_node-fast-requires-clause-sound c = sound c.args.plan c.requires.plan_value
-
-pub parts_with-requires : goal.parts_with-requires
-parts_with-requires c = sound c.args.plan c.requires.plan_value
-
-pub widest_from-p-requires-in-Two-clause-sound : goal.widest_from-p-requires-in-Two-clause-sound
-widest_from-p-requires-in-Two-clause-sound c = sound c.args.plan c.requires.plan_value
-
-pub widest_node-widest-requires-clause-sound : goal.widest_node-widest-requires-clause-sound
-widest_node-widest-requires-clause-sound c = sound c.args.plan c.requires.plan_value
-
 pub bounds-plan-widest : goal.bounds-plan-widest
 bounds-plan-widest c =
-    let o = sound c.args.plan c.requires.plan_value in
-    omega (arith, c.widest_node-widest.ensures, o.nodes_high, (widest c.args.plan o).below)
-
-pub first_silent-fast-requires : goal.first_silent-fast-requires
-first_silent-fast-requires c = sound c.args.plan c.requires.plan_value
-
-pub parts_with-requires-in-Two : goal.parts_with-requires-in-Two
-parts_with-requires-in-Two c = sound c.args.plan c.requires.plan_value
-
-pub first_silent-fast-requires-in-Three : goal.first_silent-fast-requires-in-Three
-first_silent-fast-requires-in-Three c = sound c.args.plan c.requires.plan_value
-
-pub parts_with-requires-in-Three : goal.parts_with-requires-in-Three
-parts_with-requires-in-Three c = sound c.args.plan c.requires.plan_value
+    let o = c.args.prepared.plan.sound in
+    omega (arith, c.widest_node-widest.ensures, o.nodes_high, (widest c.args.prepared.plan.plan o).below)
 
 pub returns-in-Two : goal.returns-in-Two
 unfolding parts_for
 returns-in-Two c =
-    let P = c.args.plan in
+    let P = c.args.prepared.plan.plan in
     let p = c.widest_from-p-in-Two.ensures in
     let s = ap (own P) c.widest_node-widest.ensures in
     rw c.in-Two.is
@@ -53,6 +25,6 @@ returns-in-Two c =
 pub returns-in-Three : goal.returns-in-Three
 unfolding parts_for
 returns-in-Three c =
-    let P = c.args.plan in
+    let P = c.args.prepared.plan.plan in
     rw c.in-Three.is
     (c.parts_with-in-Three.ensures ∙ ap (parts_with P 0) (c.first_silent-fast-in-Three.ensures ∙ λ j. first_below P.nodes.0 (λ i. and_self (silent_in P 0 i) j)))

@@ -1,12 +1,8 @@
-use Rattle.std.proofs.Common.{sym, eqb, eq-eqb, arith, rules}
-use Rattle.plan.specs.Sending.{own}
-use Rattle.laws.proofs.Belows.{first_at, first_none}
+use Rattle.std.proofs.Common.{rules, tests, eqb, ◌∙◌}
+use Rattle.std.proofs.lemmas.Iterator.{YieldsList-from_slice}
+use Rattle.laws.proofs.Chains.{position_in, first_or_end}
+use Rattle.plan.specs.declared.Slot.{Slot}
 use Rattle.shown_parts.proofs.sender_in.Goals as goal
 
-pub returns-then-own-slot : goal.returns-then-own-slot
-returns-then-own-slot c =
-    sym (first_at c.args.plan.nodes.0 c.loop-i.i (λ k. eqb (own c.args.plan k) c.args.slot.0) (search rules) c.loop-i.invariant (eq-eqb _ _ c.if-own-slot.true))
-
 pub returns : goal.returns
-returns c =
-    sym (first_none c.args.plan.nodes.0 (λ k. eqb (own c.args.plan k) c.args.slot.0) (λ k l. c.loop-i.invariant k (omega arith)))
+returns c = c.unwrap_or.ensures ∙ first_or_end _ _ (position_in (λ (own : Slot). eqb own.0 c.args.slot.0) c.args.plan.plan.slots c.args.plan.plan.nodes.0 (record { 0 = 0 }) _ _ (search rules) c.position-found.ensures.ran (YieldsList-from_slice _ cc) (λ x b q k. search (rules, tests)))

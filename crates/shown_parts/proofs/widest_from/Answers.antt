@@ -1,15 +1,19 @@
-use Rattle.std.proofs.Common.{sym, ◌∙◌, rules}
-use Rattle.laws.proofs.Belows.{least_none, least_more}
+use Rattle.std.proofs.Common.{rules, ◌≡◌, ◌∙◌, min, take}
+use Rattle.std.specs.List.{fold}
+use Rattle.laws.proofs.Chains.{least_chain, least_same}
+use Rattle.gap.specs.Distances.{no_distance}
 use Rattle.gap.specs.Gap.{gap_of}
-use Rattle.shown.specs.Parts.{predecessor_at}
-use Rattle.shown_parts.proofs.Widest.{predecessor_held}
+use Rattle.shown.specs.Parts.{predecessor_at, widest_from}
+use Rattle.shown_parts.proofs.Widest.{held, predecessor_held}
 use Rattle.shown_parts.proofs.widest_from.Goals as goal
 
-pub loop-i-init : goal.loop-i-init
-loop-i-init c = sym (least_none _ _)
-
-pub loop-i-preserved : goal.loop-i-preserved
-loop-i-preserved c =
-    let P = c.args.plan in
-    let held = predecessor_held P c.args.distances c.args.gap.0 c.requires.distances_value c.requires.gap_value c.loop-i.i (search rules) (search rules) in
-    c.smaller-least.ensures ∙ rw (c.loop-i.invariant, c.predecessor_at.ensures, held) (sym (least_more P.frame.0 c.loop-i.i (predecessor_at P (gap_of P))))
+pub returns : goal.returns
+unfolding widest_from
+returns c =
+    let prepared = c.args.prepared in
+    let P = prepared.plan.plan in
+    let nodes = prepared.distances.nodes in
+    let high = prepared.plan.sound.nodes_high in
+    let e : c.fold-least.result ≡ fold (λ a x. min a (held prepared x)) P.frame.0 (take P.nodes.0 nodes) = search rules in
+    e ∙ least_chain (held prepared) P.frame.0 nodes P.nodes.0 no_distance (search rules)
+    ∙ least_same P.frame.0 P.nodes.0 _ (predecessor_at P (gap_of P)) (predecessor_held prepared)

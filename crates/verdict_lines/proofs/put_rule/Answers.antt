@@ -4,4 +4,4 @@ use Rattle.verdict_lines.proofs.put_rule.Goals as goal
 
 pub returns : goal.returns
 returns c =
-    rw c.rule_number.ensures at c.put_numbered-first.ensures then c.put_wide-second.ensures then c.put_wide-third.ensures then c.put_holds.ensures
+    rw c.number.ensures at c.put_numbered-first.ensures then c.put_wide-second.ensures then c.put_wide-third.ensures then c.put_holds.ensures
