@@ -15,11 +15,12 @@ use Rattle.plan.specs.Refusals.{number_of, refused_number}
 use Rattle.run.specs.declared.Apart.{Apart}
 use Rattle.run.specs.declared.Run.{Run}
 use Rattle.run.specs.declared.Step.{Step}
+use Rattle.run.specs.declared.Step.TheVariants.{Delay, TickOf, SendOf}
 use Rattle.run.specs.declared.tested.TestedRun.{TestedRun}
 use Rattle.run.specs.State.{range_refusal}
 use Rattle.run.specs.Moves.{moved}
 use Rattle.run.specs.Steps.{step_refusal, step_tested}
-use Rattle.answer_bytes.specs.Forms.{apart_bytes}
+use Rattle.answer_bytes.specs.Forms.{apart_bytes, step_bytes}
 use Rattle.byte_calls.specs.Many.{and_then, step_spelt, asked_of}
 use Rattle.byte_calls.specs.TestsAndWrites.{run_for, run_wrong, run_spelt, run_inside}
 
@@ -83,3 +84,9 @@ pub apart_length : (a : Option Apart) → length (apart_bytes a) ≡ 9
 unfolding apart_bytes
 apart_length None = refl
 apart_length (Some a) = refl
+
+pub step_length : (s : Step) → length (step_bytes s) ≡ 5
+unfolding step_bytes
+step_length (Delay d) = refl
+step_length (TickOf i) = refl
+step_length (SendOf i) = refl
