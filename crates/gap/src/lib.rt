@@ -2,7 +2,6 @@
 #![tactic(auto)]
 
 ghost use Rattle.std.specs.Prelude.{◌≡◌, ◌≤◌, ◌<◌, length};
-ghost use Rattle.laws.specs.Ring.{distance};
 ghost use Rattle.plan.specs.Sending.{sends};
 ghost use Rattle.gap.specs.Gap.{slot_before, nearest, gap_of};
 ghost use Rattle.gap.specs.Distances.{Occupied, taken, Free, node_distance, distances_of};
@@ -110,6 +109,7 @@ pub fn distances_tested(plan: TestedPlan) -> Distances
         distance: Slot(0),
     }; 32];
     let own = &plan.plan.slots[..plan.plan.nodes.0 as usize];
+    // By its place: a `zip` with the places written to keeps from the loop what they hold already.
     for (i, slot) in own.iter().enumerate() {
         nodes[i] = node_distance(plan, &table, *slot);
     }

@@ -2,7 +2,6 @@
 #![tactic(auto)]
 
 ghost use Rattle.std.specs.Prelude.{◌≡◌, ◌*◌, ◌≤◌, ◌<◌};
-ghost use Rattle.std.specs.Result.{result_err};
 ghost use Rattle.gap.specs.Gap.{gap_of};
 ghost use Rattle.rules.specs.Rules.{rule_number, sides_with, sides_at, holds, failed_by, verdict_of, judged_of};
 
