@@ -7,7 +7,8 @@ use lib.ListN.{length, set}
 use Rattle.laws.proofs.Overs.{over_none, over_more, length_over}
 use Rattle.plan.specs.declared.Plan.{Plan}
 use Rattle.run.specs.declared.Run.{Run}
-use Rattle.answer_bytes.specs.Answers.{answer_number}
+use Rattle.std.specs.Result.{result_unwrap_or}
+use Rattle.plan.specs.Refusals.{refused_number}
 use Rattle.byte_calls.specs.Many.{asked_at, after_asked, answers_bytes}
 
 module _ (P : Plan) (steps : List ℕ) (r : Run) where
@@ -15,7 +16,7 @@ module _ (P : Plan) (steps : List ℕ) (r : Run) where
   unfolding after_asked
   asked_none = refl
 
-  pub asked_more : (k : ℕ) → (asked_at P steps k (after_asked P steps k r)).run ≡ after_asked P steps (k + 1) r
+  pub asked_more : (k : ℕ) → result_unwrap_or (asked_at P steps k (after_asked P steps k r)) (after_asked P steps k r) ≡ after_asked P steps (k + 1) r
   unfolding after_asked
   asked_more k = rw (add-one k)
 
@@ -23,7 +24,7 @@ module _ (P : Plan) (steps : List ℕ) (r : Run) where
   unfolding answers_bytes
   answers_none answers = over_none _ answers
 
-  pub answers_more : (k : ℕ) (answers now : List ℕ) (n : ℕ) → k < length answers → now ≡ answers_bytes P steps k r answers → n ≡ answer_number (asked_at P steps k (after_asked P steps k r)).answer → set now k n ≡ answers_bytes P steps (k + 1) r answers
+  pub answers_more : (k : ℕ) (answers now : List ℕ) (n : ℕ) → k < length answers → now ≡ answers_bytes P steps k r answers → n ≡ refused_number (asked_at P steps k (after_asked P steps k r)) → set now k n ≡ answers_bytes P steps (k + 1) r answers
   unfolding answers_bytes
   answers_more k answers now n h e q = over_more k _ answers now 0 n h e q
 

@@ -1,5 +1,4 @@
 -- What the proofs of several calls use.
 pub mod Passing
 pub mod TwoLengths
-pub mod Answering
 pub mod AskedOn

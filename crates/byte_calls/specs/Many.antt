@@ -1,5 +1,5 @@
 -- Many steps by bytes, 5 each, one after the other.
-use Rattle.std.specs.Prelude.{ℕ, zero, suc, ◌+◌, ◌*◌, cond, List, Result, Err}
+use Rattle.std.specs.Prelude.{ℕ, zero, suc, ◌+◌, ◌*◌, cond, List, Result, Ok, Err}
 use Rattle.std.specs.Result.{result_unwrap_or}
 use Rattle.laws.specs.Over.{over}
 use Rattle.plan.specs.declared.Plan.{Plan}
@@ -9,12 +9,23 @@ use Rattle.plan.specs.Refusals.{refused_number}
 use Rattle.laws.specs.Bytes.{byte_at}
 use Rattle.plan_file.specs.File.{be32_of}
 use Rattle.run.specs.declared.Run.{Run}
+use Rattle.run.specs.declared.Step.{Step}
 use Rattle.run.specs.Steps.{step_tested}
 use Rattle.step_lines.specs.StepLine.{is_letter, step_by}
 
--- A step by its letter and number, of a plan that passed 1 to 9; 19 for another letter than D, T and S.
+-- What is found, and with it the rest of a call; or the refusal.
+module _ {A B R : Type 0} where
+  abbrev pub and_then : Result A R → (A → Result B R) → Result B R
+  and_then (Ok found) rest = rest found
+  and_then (Err refusal) rest = Err refusal
+
+-- The step that a letter and a number spell; 19 for another letter than D, T and S.
+unfoldable pub step_spelt : (letter n : ℕ) → Result Step Refusal
+step_spelt letter n = cond (is_letter letter) (Ok (step_by letter n)) (Err LineWrong)
+
+-- A step by its letter and number, of a plan that passed 1 to 9.
 unfoldable pub asked_of : Plan → Run → (letter n : ℕ) → Result Run Refusal
-asked_of P r letter n = cond (is_letter letter) (step_tested P r (step_by letter n)) (Err LineWrong)
+asked_of P r letter n = and_then (step_spelt letter n) (step_tested P r)
 
 -- The k-th step of the bytes.
 abbrev pub asked_at : Plan → List ℕ → ℕ → Run → Result Run Refusal

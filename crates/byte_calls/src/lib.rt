@@ -6,6 +6,7 @@ mod lengths;
 mod many;
 mod runs;
 mod shown_runs;
+mod spelling;
 mod taking;
 mod verdicts;
 

@@ -1,31 +1,30 @@
 // Many steps by bytes, 5 each, one after the other.
-ghost use Rattle.std.specs.Prelude.{◌≡◌, IfOk, ◌*◌, length};
-ghost use Rattle.std.specs.Result.{result_err, result_map};
+ghost use Rattle.std.specs.Prelude.{◌≡◌, Ok, IfOk, ◌*◌, length};
+ghost use Rattle.std.specs.Result.{result_err};
 ghost use Rattle.byte_calls.specs.Many.{asked_of, after_asked, answers_bytes};
 ghost use Rattle.byte_calls.specs.TestsAndWrites.{run_put, leaves, steps_asked, answers_put};
 
 use crate::runs::run_tested;
+use crate::spelling::step_spelt;
 use plan::{Refusal, TestedPlan};
 use plan_file::be32;
 use run::TestedRun;
 use run_bytes::write_run;
-use step_lines::step_by;
 use steps::step_in_range;
 
 // A step by its letter and number. The run after it is in range again.
+#[tactic(auto, unfolding(crate::specs::Many::asked_of))]
 fn step_asked(run: TestedRun, letter: u8, number: u32) -> Result<TestedRun, Refusal>
-    ensures value { result_map (λ next. next.run) result ≡ asked_of run.plan.plan run.run letter number }
-    ensures same_plan { IfOk result (λ next. next.plan.plan ≡ run.plan.plan) }
+    ensures refusal { result_err result ≡ result_err (asked_of run.plan.plan run.run letter number) }
+    ensures moved { IfOk result (λ next. (next.plan.plan ≡ run.plan.plan) × (Ok next.run ≡ asked_of run.plan.plan run.run letter number)) }
 {
-    let Some(step) = step_by(letter, number) else {
-        return Err(Refusal::LineWrong);
-    };
-    step_in_range(run, step)
+    step_in_range(run, step_spelt(letter, number)?)
 }
 
 // The run after all steps, and an answer for each.
 fn steps_taken(run: TestedRun, steps: &[u8], answers: &mut [u8]) -> TestedRun
     requires { length steps.now ≡ 5 * length answers.old }
+    ensures plan { result.plan.plan ≡ run.plan.plan }
     ensures value { result.run ≡ after_asked run.plan.plan steps.now (length answers.old) run.run }
     ensures answers_after { answers.new ≡ answers_bytes run.plan.plan steps.now (length answers.old) run.run answers.old }
 {
@@ -43,6 +42,7 @@ fn steps_taken(run: TestedRun, steps: &[u8], answers: &mut [u8]) -> TestedRun
 }
 
 // Many steps on the run in bytes, of a plan that passed 1 to 9, with every buffer of the right length.
+#[tactic(auto, unfolding(crate::specs::TestsAndWrites::steps_asked))]
 pub fn steps_on(
     plan: TestedPlan,
     run: &mut [u8],

@@ -1,23 +1,23 @@
 // Calls on a run in bytes, of a plan that passed 1 to 9, with every buffer of the right length.
 ghost use Rattle.std.specs.Prelude.{◌≡◌, Ok, IfOk, length};
 ghost use Rattle.std.specs.Result.{result_err};
-ghost use Rattle.laws.specs.Row.{unless};
 ghost use Rattle.answer_bytes.specs.Forms.{apart_bytes, ticks_bytes};
-ghost use Rattle.byte_calls.specs.TestsAndWrites.{run_for, run_put, run_refusal, unspelt, leaves, step_asked, apart_asked, ticks_asked};
+ghost use Rattle.byte_calls.specs.TestsAndWrites.{run_put, run_spelt, run_inside, leaves, step_asked, apart_asked, ticks_asked};
 
+use crate::spelling::step_spelt;
 use answer_bytes::{apart_form, ticks_form};
 use elsewhere::apart_tested;
 use plan::{Node, Refusal, TestedPlan};
 use reckoning::reckon_tested;
 use run::{Run, TestedRun};
 use run_bytes::{put, read_run, spells_no_run, write_run};
-use step_lines::step_by;
 use steps::step_tested;
 
 // The run in bytes; refusal 10 where they spell none.
+#[tactic(auto, unfolding(crate::specs::TestsAndWrites::run_spelt))]
 fn run_spelt(plan: TestedPlan, run: &[u8]) -> Result<Run, Refusal>
     requires { length run.now ≡ 291 }
-    ensures { result ≡ unless (unspelt plan.plan run.now) (Ok (run_for plan.plan run.now)) }
+    ensures { result ≡ run_spelt plan.plan run.now }
 {
     let nodes = plan.plan.nodes.0 as usize;
     if spells_no_run(run, nodes) {
@@ -29,26 +29,26 @@ fn run_spelt(plan: TestedPlan, run: &[u8]) -> Result<Run, Refusal>
 // The run in bytes; refusal 10 where they spell none, or one with a number outside its range.
 pub fn run_tested(plan: TestedPlan, run: &[u8]) -> Result<TestedRun, Refusal>
     requires { length run.now ≡ 291 }
-    ensures refusal { result_err result ≡ run_refusal plan.plan run.now }
-    ensures run { IfOk result (λ tested. (tested.plan.plan ≡ plan.plan) × (tested.run ≡ run_for plan.plan run.now)) }
+    ensures refusal { result_err result ≡ result_err (run_inside plan.plan run.now) }
+    ensures run { IfOk result (λ tested. (tested.plan.plan ≡ plan.plan) × (Ok tested.run ≡ run_inside plan.plan run.now)) }
 {
     run_spelt(plan, run)?.tested(plan)
 }
 
+#[tactic(auto, unfolding(crate::specs::TestsAndWrites::step_asked))]
 pub fn step_on(plan: TestedPlan, run: &mut [u8], letter: u8, number: u32) -> Result<(), Refusal>
     requires { length run.old ≡ 291 }
     ensures value { result_err result ≡ result_err (step_asked plan.plan run.old letter number) }
     ensures run_after { run.new ≡ leaves (step_asked plan.plan run.old letter number) (run_put plan.plan run.old) run.old }
 {
-    let Some(step) = step_by(letter, number) else {
-        return Err(Refusal::LineWrong);
-    };
+    let step = step_spelt(letter, number)?;
     let before = run_spelt(plan, run)?;
     let after = step_tested(plan, before, step)?;
     write_run(run, plan.plan.nodes.0 as usize, after);
     Ok(())
 }
 
+#[tactic(auto, unfolding(crate::specs::TestsAndWrites::apart_asked))]
 pub fn apart_on(plan: TestedPlan, run: &[u8], answer: &mut [u8]) -> Result<(), Refusal>
     requires run_len { length run.now ≡ 291 }
     requires answer_len { length answer.old ≡ 9 }
@@ -56,10 +56,11 @@ pub fn apart_on(plan: TestedPlan, run: &[u8], answer: &mut [u8]) -> Result<(), R
     ensures answer_after { answer.new ≡ leaves (apart_asked plan.plan run.now) apart_bytes answer.old }
 {
     let tested = run_tested(plan, run)?;
-    put(answer, 0, apart_form(apart_tested(plan, tested.run)));
+    put(answer, 0, &apart_form(apart_tested(plan, tested.run)));
     Ok(())
 }
 
+#[tactic(auto, unfolding(crate::specs::TestsAndWrites::ticks_asked, answer_bytes::specs::Forms::ticks_bytes))]
 pub fn reckon_on(plan: TestedPlan, run: &[u8], node: u32, ticks: &mut [u8]) -> Result<(), Refusal>
     requires run_len { length run.now ≡ 291 }
     requires ticks_len { length ticks.old ≡ 4 }
@@ -68,6 +69,6 @@ pub fn reckon_on(plan: TestedPlan, run: &[u8], node: u32, ticks: &mut [u8]) -> R
 {
     let before = run_spelt(plan, run)?;
     let reckoned = reckon_tested(plan, before, Node(node))?;
-    put(ticks, 0, ticks_form(reckoned));
+    put(ticks, 0, &ticks_form(reckoned));
     Ok(())
 }

@@ -6,6 +6,7 @@ ghost use Rattle.byte_calls.specs.Taken.{read_refusal, plan_in};
 use plan::{Refusal, TestedPlan};
 use plan_file::read_tested;
 
+#[tactic(auto, unfolding(crate::specs::Taken::read_refusal, crate::specs::Taken::plan_in))]
 pub fn taken_from(file: &[u8]) -> Result<TestedPlan, Refusal>
     ensures refusal { result_err result ≡ read_refusal file.now }
     ensures plan { IfOk result (λ tested. tested.plan ≡ plan_in file.now) }

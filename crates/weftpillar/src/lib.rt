@@ -46,7 +46,7 @@ pub fn weftpillar_judge(plan: &[u8], verdict: &mut [u8]) -> Result<(), Unanswere
         return Err(Unanswered::AnotherLength);
     }
     let plan = taken_from(plan)?;
-    put(verdict, 0, verdict_form(verdict_by(plan)));
+    put(verdict, 0, &verdict_form(verdict_by(plan)));
     Ok(())
 }
 
@@ -127,7 +127,7 @@ pub fn weftpillar_line(line: &[u8], step: &mut [u8]) -> Result<(), Unanswered>
         return Err(Unanswered::AnotherLength);
     }
     let asked = read_line(line)?;
-    put(step, 0, step_form(asked));
+    put(step, 0, &step_form(asked));
     Ok(())
 }
 

@@ -1,12 +1,8 @@
--- 19 by the letter, else the step; either leaves the run in range.
-use Rattle.std.proofs.Common.{sym, ◌∙◌}
-use Rattle.byte_calls.specs.Many.{asked_of}
+use Rattle.byte_calls.proofs.Passing.{asked_decides, asked_moved}
 use Rattle.byte_calls.proofs.many.step_asked.Goals as goal
 
-pub returns-then-not-is_letter : goal.returns-then-not-is_letter
-unfolding asked_of
-returns-then-not-is_letter c = (rw (sym c.is_letter.ensures ∙ c.if-not-is_letter.true), c.requires.run_value)
+pub returns-clause-refusal : goal.returns-clause-refusal
+returns-clause-refusal c = asked_decides _ _ _ _ _ c.in_ok-step_spelt.ensures _ c.step_in_range.ensures.refusal
 
-pub returns : goal.returns
-unfolding asked_of
-returns c = let l = sym c.is_letter.ensures ∙ c.if-not-is_letter.false in (rw (l, ← c.step_by.ensures) c.step_in_range.ensures.0, c.step_in_range.ensures.1)
+pub returns-clause-moved : goal.returns-clause-moved
+returns-clause-moved c = asked_moved _ _ _ _ _ c.in_ok-step_spelt.ensures c.step_in_range.result c.step_in_range.ensures.refusal c.step_in_range.ensures.moved
