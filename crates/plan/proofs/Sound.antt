@@ -5,17 +5,18 @@ use mathlib.Core.Bool.{Bool, true, false, ◌||◌}
 use mathlib.Core.List.{◌++◌}
 use native.Mathlib.Decide.{dec_lt}
 use native.Mathlib.Omega.{arith}
-use borrow.Author.Tests.{ltb-false, leb-false, eqb-false, eqb-true, eq-eqb}
+use borrow.Author.Tests.{ltb-false, leb-false, eqb-false, eqb-true, eq-eqb, ne_eqb, le-ltb, lt-leb}
 use lib.Dec.{eqb, leb, ltb}
 use Rattle.std.specs.Prelude.{None, Some}
-use Rattle.laws.proofs.Bools.{clash, or_false_left, or_false_right, false_not_true}
+use Rattle.laws.proofs.Bools.{clash, or_false_left, or_false_right, or_neither, false_not_true}
+use Rattle.laws.specs.Below.{any_below}
 use Rattle.laws.specs.Row.{first_given}
-use Rattle.laws.proofs.Rows.{all_off, parts_off, part_here, part_later}
-use Rattle.laws.proofs.Belows.{any_not, any_some, any_found}
+use Rattle.laws.proofs.Rows.{all_off, off_all, parts_off, part_here, part_later}
+use Rattle.laws.proofs.Belows.{any_not, any_never, any_some, any_found}
 use Rattle.plan.specs.declared.Plan.{Plan}
 use Rattle.plan.specs.declared.refusal.Refusal.{Refusal}
 use Rattle.plan.specs.Sending.{own, sends}
-use Rattle.plan.specs.Tested.{is_active_outside, is_guard_or_tail_wrong, is_min_or_max_wrong, some_not_active, shares_slot, some_shared, frame_rows, ticks_rows, slot_rows, plan_refusal, Sound}
+use Rattle.plan.specs.Tested.{is_active_outside, is_guard_or_tail_wrong, is_min_or_max_wrong, some_not_active, shares_slot, some_shared, frame_rows, ticks_rows, slot_rows, plan_rows, plan_refusal, Sound}
 
 -- the two halves of `outside`, and of a row of two or three tests, that did not hold
 pub inside_low : (low high x : ℕ) → (ltb x low || ltb high x) ≡ false → low ≤ x
@@ -116,3 +117,38 @@ own_sends P i h = any_found P.nodes.0 i (λ j. eqb (own P j) (own P i)) h (eq-eq
 -- a sending slot lies in the frame
 pub own_in_frame : (P : Plan) → Sound P → (i : ℕ) → i < P.nodes.0 → own P i < P.frame.0
 own_in_frame P o i h = omega (arith, o.own_active i h, o.active_high)
+
+-- a sound plan is let through
+inside : (low high x : ℕ) → low ≤ x → x ≤ high → (ltb x low || ltb high x) ≡ false
+inside low high x l h = or_neither (ltb x low) (ltb high x) (le-ltb x low l) (le-ltb high x h)
+
+three_not : (a b c : Bool) → a ≡ false → b ≡ false → c ≡ false → (a || b || c) ≡ false
+three_not a b c d e f = or_neither (a || b) c (or_neither a b d e) f
+
+some_zero : (x : ℕ) → 1 ≤ x → eqb x 0 ≡ false
+some_zero x h = ne_eqb x 0 (omega arith)
+
+pub passes : (P : Plan) → Sound P → plan_refusal P ≡ None
+unfolding plan_refusal is_active_outside is_guard_or_tail_wrong is_min_or_max_wrong some_not_active some_shared shares_slot
+passes P S =
+    let active = or_neither (eqb P.active.0 0) (ltb P.frame.0 P.active.0) (some_zero P.active.0 S.active_low) (le-ltb P.frame.0 P.active.0 S.active_high) in
+    let guards =
+        three_not (eqb P.guard.0 0) (eqb P.tail.0 0) (ltb P.ticks.0 (P.guard.0 + P.tail.0 + 2)) (some_zero P.guard.0 S.guard_low) (some_zero P.tail.0 S.tail_low)
+        (le-ltb P.ticks.0 (P.guard.0 + P.tail.0 + 2) S.guard_tail) in
+    let times =
+        three_not (eqb P.min.0 0) (ltb P.max.0 P.min.0) (ltb 2000000 P.max.0) (some_zero P.min.0 S.min_low) (le-ltb P.max.0 P.min.0 S.min_max)
+        (le-ltb 2000000 P.max.0 S.max_high) in
+    let each_active = any_never P.nodes.0 (λ i. leb P.active.0 (own P i)) (λ i l. lt-leb P.active.0 (own P i) (S.own_active i l)) in
+    let none_shared =
+        any_never P.nodes.0 (λ i. any_below i (λ k. eqb (own P k) (own P i)))
+        (λ i l. any_never i (λ k. eqb (own P k) (own P i)) (λ k m. ne_eqb (own P k) (own P i) (λ e. omega (arith, S.own_apart k i (omega arith) l e)))) in
+    off_all (plan_rows P)
+    (inside 3 32 P.nodes.0 S.nodes_low S.nodes_high,
+    (inside 3 4096 P.frame.0 S.frame_low S.frame_high,
+    (active,
+    (inside 4 255 P.ticks.0 S.ticks_low S.ticks_high,
+    (guards,
+    (times,
+    (each_active,
+    (none_shared,
+    (rw S.slot_0_sends refl, tt)))))))))
