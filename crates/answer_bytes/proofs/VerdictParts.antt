@@ -15,7 +15,7 @@ sides_length : (s : Sides) → length (sides_bytes s) ≡ 16
 unfolding sides_bytes
 sides_length s = refl
 
-verdict_length : (v : Verdict) → length (verdict_bytes v) ≡ 51
+pub verdict_length : (v : Verdict) → length (verdict_bytes v) ≡ 51
 unfolding verdict_bytes sides_bytes
 verdict_length v = refl
 

@@ -1,3 +1,2 @@
 -- What the proofs of several calls use, and that a refused call changes nothing.
-pub mod Calling
 pub mod Unchanged

@@ -1,7 +1,6 @@
 -- What each call answers, by its tests in their order, and what it leaves in the buffers lent to it: by its answer, and by the number of that.
 use Rattle.std.specs.Prelude.{ℕ, ◌*◌, not, ◌||◌, List, length, eqb, Option, Result, Ok}
 use Rattle.laws.specs.Row.{unless}
-use Rattle.plan.specs.declared.Plan.{Plan}
 use Rattle.rules.specs.declared.Verdict.{Verdict}
 use Rattle.rules.specs.Rules.{verdict_of}
 use Rattle.run.specs.declared.Apart.{Apart}

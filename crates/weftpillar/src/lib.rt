@@ -38,6 +38,7 @@ use shown::fresh_place;
 use step_lines::read_line;
 
 // A plan file judged: the verdict, 51 bytes.
+#[tactic(auto, unfolding(crate::specs::Calls::judged, crate::specs::Answers::answered))]
 pub fn weftpillar_judge(plan: &[u8], verdict: &mut [u8]) -> Result<(), Unanswered>
     ensures value { result_err result ≡ result_err (judged plan.now verdict.old) }
     ensures verdict_after { verdict.new ≡ judge_leaves plan.now verdict.old }
@@ -51,6 +52,7 @@ pub fn weftpillar_judge(plan: &[u8], verdict: &mut [u8]) -> Result<(), Unanswere
 }
 
 // A fresh run, 291 bytes.
+#[tactic(auto, unfolding(crate::specs::Calls::begun))]
 pub fn weftpillar_fresh(run: &mut [u8]) -> Result<(), Unanswered>
     ensures value { result_err result ≡ result_err (begun run.old) }
     ensures run_after { run.new ≡ fresh_leaves run.old }
@@ -63,7 +65,13 @@ pub fn weftpillar_fresh(run: &mut [u8]) -> Result<(), Unanswered>
 }
 
 // One step, by its letter and number: the run moved on in place, or refused and as it was.
-pub fn weftpillar_step(plan: &[u8], run: &mut [u8], letter: u8, number: u32) -> Result<(), Unanswered>
+#[tactic(auto, unfolding(crate::specs::Calls::stepped, crate::specs::Answers::answered))]
+pub fn weftpillar_step(
+    plan: &[u8],
+    run: &mut [u8],
+    letter: u8,
+    number: u32,
+) -> Result<(), Unanswered>
     ensures value { result_err result ≡ result_err (stepped plan.now run.old letter number) }
     ensures run_after { run.new ≡ step_leaves plan.now run.old letter number }
 {
@@ -76,7 +84,13 @@ pub fn weftpillar_step(plan: &[u8], run: &mut [u8], letter: u8, number: u32) -> 
 }
 
 // Many steps, 5 bytes each, and a byte for the answer of each: the plan and the run are tested once, a refused step is passed over.
-pub fn weftpillar_steps(plan: &[u8], run: &mut [u8], steps: &[u8], answers: &mut [u8]) -> Result<(), Unanswered>
+#[tactic(auto, unfolding(crate::specs::Calls::all_stepped, crate::specs::Answers::answered))]
+pub fn weftpillar_steps(
+    plan: &[u8],
+    run: &mut [u8],
+    steps: &[u8],
+    answers: &mut [u8],
+) -> Result<(), Unanswered>
     ensures value { result_err result ≡ result_err (all_stepped plan.now run.old steps.now answers.old) }
     ensures run_after { run.new ≡ steps_leaves_run plan.now run.old steps.now answers.old }
     ensures answers_after { answers.new ≡ steps_leaves_answers plan.now run.old steps.now answers.old }
@@ -93,6 +107,7 @@ pub fn weftpillar_steps(plan: &[u8], run: &mut [u8], steps: &[u8], answers: &mut
 }
 
 // Whether the run is out of step, and by which nodes: 9 bytes.
+#[tactic(auto, unfolding(crate::specs::Calls::apart, crate::specs::Answers::answered))]
 pub fn weftpillar_out_of_step(plan: &[u8], run: &[u8], answer: &mut [u8]) -> Result<(), Unanswered>
     ensures value { result_err result ≡ result_err (apart plan.now run.now answer.old) }
     ensures answer_after { answer.new ≡ apart_leaves plan.now run.now answer.old }
@@ -106,7 +121,13 @@ pub fn weftpillar_out_of_step(plan: &[u8], run: &[u8], answer: &mut [u8]) -> Res
 }
 
 // A node's reckoning of its ticks: 4 bytes.
-pub fn weftpillar_reckon(plan: &[u8], run: &[u8], node: u32, ticks: &mut [u8]) -> Result<(), Unanswered>
+#[tactic(auto, unfolding(crate::specs::Calls::reckoned, crate::specs::Answers::answered))]
+pub fn weftpillar_reckon(
+    plan: &[u8],
+    run: &[u8],
+    node: u32,
+    ticks: &mut [u8],
+) -> Result<(), Unanswered>
     ensures value { result_err result ≡ result_err (reckoned plan.now run.now node ticks.old) }
     ensures ticks_after { ticks.new ≡ reckon_leaves plan.now run.now node ticks.old }
 {
@@ -119,6 +140,7 @@ pub fn weftpillar_reckon(plan: &[u8], run: &[u8], node: u32, ticks: &mut [u8]) -
 }
 
 // A step line, its newline included, to a step: 5 bytes.
+#[tactic(auto, unfolding(crate::specs::Calls::line_read))]
 pub fn weftpillar_line(line: &[u8], step: &mut [u8]) -> Result<(), Unanswered>
     ensures value { result_err result ≡ result_err (line_read line.now step.old) }
     ensures step_after { step.new ≡ line_leaves line.now step.old }
@@ -132,6 +154,7 @@ pub fn weftpillar_line(line: &[u8], step: &mut [u8]) -> Result<(), Unanswered>
 }
 
 // Where a shown run begins, 292 bytes.
+#[tactic(auto, unfolding(crate::specs::Calls::place_begun))]
 pub fn weftpillar_fresh_place(place: &mut [u8]) -> Result<(), Unanswered>
     ensures value { result_err result ≡ result_err (place_begun place.old) }
     ensures place_after { place.new ≡ fresh_place_leaves place.old }
@@ -144,6 +167,7 @@ pub fn weftpillar_fresh_place(place: &mut [u8]) -> Result<(), Unanswered>
 }
 
 // The next step of the shown run, 5 bytes, and the place moved on; 254 where the run is finished.
+#[tactic(auto, unfolding(crate::specs::Calls::next, crate::specs::Answers::answered))]
 pub fn weftpillar_next(plan: &[u8], place: &mut [u8], step: &mut [u8]) -> Result<(), Unanswered>
     ensures value { result_err result ≡ result_err (next plan.now place.old step.old) }
     ensures place_after { place.new ≡ next_leaves_place plan.now place.old step.old }
