@@ -1,57 +1,61 @@
--- What is given out by the parts is what the definition gives of the plan; each step given leaves one fewer to give.
+-- Each step that is given at a place of a shown run leaves one fewer to give.
 use Prim.Native.Nat.{ℕ, suc, ◌<◌}
-use mathlib.Core.Path.{◌≡◌, refl, sym, ap, ◌∙◌}
-use mathlib.Core.Bool.{true}
+use mathlib.Core.Path.{◌≡◌, sym, ap, ◌∙◌}
 use native.Mathlib.Omega.{arith}
-use Rattle.plan.specs.declared.Plan.{Plan}
-use Rattle.plan.proofs.Sound.{sound}
-use Rattle.run.specs.State.{in_range}
+use Rattle.std.specs.Prelude.{Option, None, Some, Ok, unwrap_or}
+use Rattle.std.specs.Option.{option_map}
+use Rattle.plan.specs.Tested.{plan_refusal}
+use Rattle.plan.proofs.Sound.{passes}
+use Rattle.rules.specs.declared.Rule.{Rule}
+use Rattle.rules.specs.Rules.{verdict_of}
 use Rattle.run.specs.declared.Step.{Step}
 use Rattle.shown.specs.declared.Parts.{Parts}
-use Rattle.shown.specs.declared.Place.{Place}
-use Rattle.shown.specs.declared.Next.{Next}
-use Rattle.shown.specs.declared.Next.TheVariants.{Takes, Finished, Refused}
-use Rattle.shown.specs.declared.Given.{Given}
-use Rattle.shown.specs.Shown.{given_by, given_of}
-use Rattle.shown.proofs.Casting.{cast}
+use Rattle.shown.specs.Parts.{parts_for}
+use Rattle.shown.specs.Shown.{fresh_place, place_of, given_with, given_by}
+use Rattle.shown.specs.declared.showing.Showing.{Showing}
 use Rattle.shown.proofs.Giving.{given_is}
-use Rattle.shows_why.proofs.Left.{steps_left, Within, left_falls}
-use Rattle.judging.specs.Failing.{Failing}
+use Rattle.shows_why.proofs.Left.{steps_left, Within, within_fresh, left_falls}
 
-module _ {P : Plan} {c : Parts} (failing : Failing P c) where
-  pub sender_known : c.sender.0 < P.nodes.0
-  sender_known = rw failing.parts (cast P (sound P failing.plain) failing.rule failing.fails).roles.sender_below
+-- The plan fails a rule, the parts are that rule's, and the place is one of a run that ends.
+pub record Failing (shown : Showing) : Type 0 where
+  pub plain : plan_refusal shown.run.plan.plan ≡ None
+  pub rule : Rule
+  pub fails : (verdict_of shown.run.plan.plan).failed ≡ Some rule
+  pub parts : shown.parts ≡ parts_for shown.run.plan.plan rule
+  pub within : Within shown.run.plan.plan (place_of shown)
 
-  pub given_whole : (q : Place) → in_range P q.run ≡ true → given_by P c q ≡ given_of P q
-  given_whole q r = ap (λ (x : Parts). given_by P x q) failing.parts ∙ sym (given_is P failing.rule failing.plain failing.fails q r)
+abbrev pub to_give : Showing → ℕ
+to_give shown = steps_left shown.run.plan.plan (place_of shown)
 
--- the steps that are given or left, once `n` of them are left after this one
-abbrev pub left_by : Next → ℕ → ℕ
-left_by (Takes s) n = suc n
-left_by Finished n = 0
-left_by (Refused k) n = 0
+-- at the beginning
+pub failing_fresh : (shown : Showing) (failed : Option Rule) → (verdict_of shown.run.plan.plan).failed ≡ failed
+    → Some shown.parts ≡ option_map (parts_for shown.run.plan.plan) failed → place_of shown ≡ fresh_place → Failing shown
+failing_fresh shown None v e fresh = cc
+failing_fresh shown (Some rule) v e fresh =
+    let plain = passes shown.run.plan.plan shown.run.plan.sound in
+    record {
+      plain = plain;
+      rule = rule;
+      fails = v;
+      parts = ap (λ (o : Option Parts). unwrap_or o shown.parts) e;
+      within = rw fresh (within_fresh shown.run.plan.plan rule plain v);
+    }
 
-abbrev pub to_give : Plan → Given → ℕ
-to_give P g = left_by g.next (steps_left P g.place)
+-- after a step that was given
+module _ (shown next : Showing) (step : Step) (failing : Failing shown) (given : Some (given_with (step, next)) ≡ given_by shown.run.plan.plan shown.parts (place_of shown)) (plan : next.run.plan.plan ≡ shown.run.plan.plan) (parts : next.parts ≡ shown.parts) where
+  falls : to_give shown ≡ suc (steps_left shown.run.plan.plan (place_of next))
+  falls =
+      left_falls shown.run.plan.plan (place_of shown) (given_with (step, next)) failing.within
+      (given_is shown.run.plan.plan failing.rule failing.plain failing.fails (place_of shown) shown.run.in_range ∙ ap Ok (rw (← failing.parts) (sym given)))
 
--- what was given at a place of a shown run that ends
-pub record Giving (P : Plan) (g : Given) : Type 0 where
-  pub from : Place
-  pub within : Within P from
-  pub given : g ≡ given_of P from
+  pub gives_less : to_give next < to_give shown
+  gives_less = rw plan (omega (arith, falls))
 
-module _ (P : Plan) (g : Given) (s : Step) (giving : Giving P g) (takes : g.next ≡ Takes s) where
-  pub goes_within : Within P g.place
-  goes_within =
-      let falls = left_falls P giving.from s giving.within (ap (λ (x : Given). x.next) (sym giving.given) ∙ takes) in
-      rw giving.given (omega (arith, falls, giving.within))
-
-  pub gives_less : (more : Given) → more ≡ given_of P g.place → to_give P more < to_give P g
-  gives_less more e = rw takes (go more.next refl)
-    where
-      go : (n : Next) → more.next ≡ n → left_by n (steps_left P more.place) < suc (steps_left P g.place)
-      go (Takes t) h =
-          let falls = left_falls P g.place t goes_within (ap (λ (x : Given). x.next) (sym e) ∙ h) in
-          rw e (omega (arith, falls))
-      go Finished h = omega arith
-      go (Refused k) h = omega arith
+  pub goes_on : Failing next
+  goes_on = record {
+    plain = rw plan failing.plain;
+    rule = failing.rule;
+    fails = rw plan failing.fails;
+    parts = rw plan (parts ∙ failing.parts);
+    within = rw plan (omega (arith, falls, failing.within));
+  }

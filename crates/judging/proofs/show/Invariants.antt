@@ -1,11 +1,9 @@
--- What was given last is what the definition gives where the run has come to, and fewer steps of the shown run are left each time.
-use Rattle.std.proofs.Common.{◌≡◌, true}
-use Rattle.run.specs.State.{in_range}
-use Rattle.judging.proofs.Giving.{to_give, Giving}
+-- The shown place is one of a run that ends, and fewer steps are left to give each time.
+use Rattle.judging.proofs.Giving.{Failing, to_give}
 use Rattle.judging.proofs.show.Given as goal
 
 abbrev pub invariant-loop-step : goal.invariant-loop-step
-invariant-loop-step g l = (in_range l.plan l.given.place.run ≡ true) × Giving l.plan l.given
+invariant-loop-step g l = Failing l.shown
 
 abbrev pub decreases-loop-step : goal.decreases-loop-step
-decreases-loop-step g l = to_give l.plan l.given
+decreases-loop-step g l = to_give l.shown
