@@ -53,9 +53,7 @@ fn sender_in(plan: TestedPlan, slot: Slot) -> Node
     ensures { result.0 ≡ sender_in plan.plan slot.0 }
 {
     let nodes = plan.plan.nodes.0 as usize;
-    let found = plan.plan.slots[..nodes]
-        .iter()
-        .position(|own| *own == slot);
+    let found = plan.plan.slots[..nodes].iter().position(|own| *own == slot);
     Node(found.unwrap_or(nodes) as u32)
 }
 
