@@ -51,7 +51,7 @@ fn sends_below(plan: Plan, count: usize, slot: Slot) -> bool
     requires { count ≤ 32 }
     ensures { result ≡ sends_below plan count slot.0 }
 {
-    plan.slots[..count].iter().any(|own| own.0 == slot.0)
+    plan.slots[..count].iter().any(|own| *own == slot)
 }
 
 // Node i sends in the slot of a node before it.
