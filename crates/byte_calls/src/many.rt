@@ -45,12 +45,11 @@ fn steps_taken(run: TestedRun, steps: &[u8], answers: &mut [u8]) -> TestedRun
 #[tactic(auto, unfolding(crate::specs::TestsAndWrites::steps_asked))]
 pub fn steps_on(
     plan: TestedPlan,
-    run: &mut [u8],
+    run: &mut [u8; 291],
     steps: &[u8],
     answers: &mut [u8],
 ) -> Result<(), Refusal>
-    requires run_len { length run.old ≡ 291 }
-    requires steps_len { length steps.now ≡ 5 * length answers.old }
+    requires { length steps.now ≡ 5 * length answers.old }
     ensures value { result_err result ≡ result_err (steps_asked plan.plan run.old steps.now (length answers.old)) }
     ensures run_after { run.new ≡ leaves (steps_asked plan.plan run.old steps.now (length answers.old)) (run_put plan.plan run.old) run.old }
     ensures answers_after { answers.new ≡ leaves (steps_asked plan.plan run.old steps.now (length answers.old)) (answers_put plan.plan run.old steps.now answers.old) answers.old }

@@ -1,5 +1,5 @@
 // Calls on a run in bytes, of a plan that passed 1 to 9, with every buffer of the right length.
-ghost use Rattle.std.specs.Prelude.{◌≡◌, Ok, IfOk, length};
+ghost use Rattle.std.specs.Prelude.{◌≡◌, Ok, IfOk};
 ghost use Rattle.std.specs.Result.{result_err};
 ghost use Rattle.answer_bytes.specs.Forms.{apart_bytes, ticks_bytes};
 ghost use Rattle.byte_calls.specs.TestsAndWrites.{run_put, run_spelt, run_inside, leaves, step_asked, apart_asked, ticks_asked};
@@ -10,13 +10,12 @@ use elsewhere::apart_tested;
 use plan::{Node, Refusal, TestedPlan};
 use reckoning::reckon_tested;
 use run::{Run, TestedRun};
-use run_bytes::{put, read_run, spells_no_run, write_run};
+use run_bytes::{read_run, spells_no_run, write_run};
 use steps::step_tested;
 
 // The run in bytes; refusal 10 where they spell none.
 #[tactic(auto, unfolding(crate::specs::TestsAndWrites::run_spelt))]
-fn run_spelt(plan: TestedPlan, run: &[u8]) -> Result<Run, Refusal>
-    requires { length run.now ≡ 291 }
+fn run_spelt(plan: TestedPlan, run: &[u8; 291]) -> Result<Run, Refusal>
     ensures { result ≡ run_spelt plan.plan run.now }
 {
     let nodes = plan.plan.nodes.0 as usize;
@@ -27,8 +26,7 @@ fn run_spelt(plan: TestedPlan, run: &[u8]) -> Result<Run, Refusal>
 }
 
 // The run in bytes; refusal 10 where they spell none, or one with a number outside its range.
-pub fn run_tested(plan: TestedPlan, run: &[u8]) -> Result<TestedRun, Refusal>
-    requires { length run.now ≡ 291 }
+pub fn run_tested(plan: TestedPlan, run: &[u8; 291]) -> Result<TestedRun, Refusal>
     ensures refusal { result_err result ≡ result_err (run_inside plan.plan run.now) }
     ensures run { IfOk result (λ tested. (tested.plan.plan ≡ plan.plan) × (Ok tested.run ≡ run_inside plan.plan run.now)) }
 {
@@ -36,8 +34,12 @@ pub fn run_tested(plan: TestedPlan, run: &[u8]) -> Result<TestedRun, Refusal>
 }
 
 #[tactic(auto, unfolding(crate::specs::TestsAndWrites::step_asked))]
-pub fn step_on(plan: TestedPlan, run: &mut [u8], letter: u8, number: u32) -> Result<(), Refusal>
-    requires { length run.old ≡ 291 }
+pub fn step_on(
+    plan: TestedPlan,
+    run: &mut [u8; 291],
+    letter: u8,
+    number: u32,
+) -> Result<(), Refusal>
     ensures value { result_err result ≡ result_err (step_asked plan.plan run.old letter number) }
     ensures run_after { run.new ≡ leaves (step_asked plan.plan run.old letter number) (run_put plan.plan run.old) run.old }
 {
@@ -49,26 +51,27 @@ pub fn step_on(plan: TestedPlan, run: &mut [u8], letter: u8, number: u32) -> Res
 }
 
 #[tactic(auto, unfolding(crate::specs::TestsAndWrites::apart_asked))]
-pub fn apart_on(plan: TestedPlan, run: &[u8], answer: &mut [u8]) -> Result<(), Refusal>
-    requires run_len { length run.now ≡ 291 }
-    requires answer_len { length answer.old ≡ 9 }
+pub fn apart_on(plan: TestedPlan, run: &[u8; 291], answer: &mut [u8; 9]) -> Result<(), Refusal>
     ensures value { result_err result ≡ result_err (apart_asked plan.plan run.now) }
     ensures answer_after { answer.new ≡ leaves (apart_asked plan.plan run.now) apart_bytes answer.old }
 {
     let tested = run_tested(plan, run)?;
-    put(answer, 0, &apart_form(apart_tested(plan, tested.run)));
+    *answer = apart_form(apart_tested(plan, tested.run));
     Ok(())
 }
 
 #[tactic(auto, unfolding(crate::specs::TestsAndWrites::ticks_asked, answer_bytes::specs::Forms::ticks_bytes))]
-pub fn reckon_on(plan: TestedPlan, run: &[u8], node: u32, ticks: &mut [u8]) -> Result<(), Refusal>
-    requires run_len { length run.now ≡ 291 }
-    requires ticks_len { length ticks.old ≡ 4 }
+pub fn reckon_on(
+    plan: TestedPlan,
+    run: &[u8; 291],
+    node: u32,
+    ticks: &mut [u8; 4],
+) -> Result<(), Refusal>
     ensures value { result_err result ≡ result_err (ticks_asked plan.plan run.now node) }
     ensures ticks_after { ticks.new ≡ leaves (ticks_asked plan.plan run.now node) ticks_bytes ticks.old }
 {
     let before = run_spelt(plan, run)?;
     let reckoned = reckon_tested(plan, before, Node(node))?;
-    put(ticks, 0, &ticks_form(reckoned));
+    *ticks = ticks_form(reckoned);
     Ok(())
 }

@@ -29,7 +29,7 @@ ghost use Rattle.weftpillar.specs.Calls.{
 pub use answer_bytes::{Unanswered, answer_number};
 use answer_bytes::{step_form, verdict_form, write_place};
 use byte_calls::{
-    apart_on, counts_differ, lengths_differ, next_on, reckon_on, step_on, steps_on, taken_from,
+    apart_on, counts_differ, next_on, reckon_on, step_on, steps_on, taken_from,
     verdict_by,
 };
 use run::fresh;
@@ -75,9 +75,9 @@ pub fn weftpillar_step(
     ensures value { result_err result ≡ result_err (stepped plan.now run.old letter number) }
     ensures run_after { run.new ≡ step_leaves plan.now run.old letter number }
 {
-    if run.len() != 291 {
+    let Some(run) = run.as_mut_array::<291>() else {
         return Err(Unanswered::AnotherLength);
-    }
+    };
     let plan = taken_from(plan)?;
     step_on(plan, run, letter, number)?;
     Ok(())
@@ -95,9 +95,9 @@ pub fn weftpillar_steps(
     ensures run_after { run.new ≡ steps_leaves_run plan.now run.old steps.now answers.old }
     ensures answers_after { answers.new ≡ steps_leaves_answers plan.now run.old steps.now answers.old }
 {
-    if run.len() != 291 {
+    let Some(run) = run.as_mut_array::<291>() else {
         return Err(Unanswered::AnotherLength);
-    }
+    };
     if counts_differ(steps.len(), answers.len()) {
         return Err(Unanswered::AnotherLength);
     }
@@ -112,9 +112,12 @@ pub fn weftpillar_out_of_step(plan: &[u8], run: &[u8], answer: &mut [u8]) -> Res
     ensures value { result_err result ≡ result_err (apart plan.now run.now answer.old) }
     ensures answer_after { answer.new ≡ apart_leaves plan.now run.now answer.old }
 {
-    if lengths_differ(run.len(), 291, answer.len(), 9) {
+    let Some(run) = run.as_array::<291>() else {
         return Err(Unanswered::AnotherLength);
-    }
+    };
+    let Some(answer) = answer.as_mut_array::<9>() else {
+        return Err(Unanswered::AnotherLength);
+    };
     let plan = taken_from(plan)?;
     apart_on(plan, run, answer)?;
     Ok(())
@@ -131,9 +134,12 @@ pub fn weftpillar_reckon(
     ensures value { result_err result ≡ result_err (reckoned plan.now run.now node ticks.old) }
     ensures ticks_after { ticks.new ≡ reckon_leaves plan.now run.now node ticks.old }
 {
-    if lengths_differ(run.len(), 291, ticks.len(), 4) {
+    let Some(run) = run.as_array::<291>() else {
         return Err(Unanswered::AnotherLength);
-    }
+    };
+    let Some(ticks) = ticks.as_mut_array::<4>() else {
+        return Err(Unanswered::AnotherLength);
+    };
     let plan = taken_from(plan)?;
     reckon_on(plan, run, node, ticks)?;
     Ok(())
@@ -173,9 +179,12 @@ pub fn weftpillar_next(plan: &[u8], place: &mut [u8], step: &mut [u8]) -> Result
     ensures place_after { place.new ≡ next_leaves_place plan.now place.old step.old }
     ensures step_after { step.new ≡ next_leaves_step plan.now place.old step.old }
 {
-    if lengths_differ(place.len(), 292, step.len(), 5) {
+    let Some(place) = place.as_mut_array::<292>() else {
         return Err(Unanswered::AnotherLength);
-    }
+    };
+    let Some(step) = step.as_mut_array::<5>() else {
+        return Err(Unanswered::AnotherLength);
+    };
     let plan = taken_from(plan)?;
     next_on(plan, place, step)
 }
