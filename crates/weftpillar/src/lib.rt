@@ -29,11 +29,10 @@ ghost use Rattle.weftpillar.specs.Calls.{
 pub use answer_bytes::{Unanswered, answer_number};
 use answer_bytes::{step_form, verdict_form, write_place};
 use byte_calls::{
-    apart_on, counts_differ, next_on, reckon_on, step_on, steps_on, taken_from,
-    verdict_by,
+    apart_on, counts_differ, next_on, reckon_on, step_on, steps_on, taken_from, verdict_by,
 };
 use run::fresh;
-use run_bytes::{put, write_run};
+use run_bytes::write_run;
 use shown::fresh_place;
 use step_lines::read_line;
 
@@ -43,11 +42,11 @@ pub fn weftpillar_judge(plan: &[u8], verdict: &mut [u8]) -> Result<(), Unanswere
     ensures value { result_err result ≡ result_err (judged plan.now verdict.old) }
     ensures verdict_after { verdict.new ≡ judge_leaves plan.now verdict.old }
 {
-    if verdict.len() != 51 {
+    let Some(verdict) = verdict.as_mut_array::<51>() else {
         return Err(Unanswered::AnotherLength);
-    }
+    };
     let plan = taken_from(plan)?;
-    put(verdict, 0, &verdict_form(verdict_by(plan)));
+    *verdict = verdict_form(verdict_by(plan));
     Ok(())
 }
 
@@ -57,9 +56,9 @@ pub fn weftpillar_fresh(run: &mut [u8]) -> Result<(), Unanswered>
     ensures value { result_err result ≡ result_err (begun run.old) }
     ensures run_after { run.new ≡ fresh_leaves run.old }
 {
-    if run.len() != 291 {
+    let Some(run) = run.as_mut_array::<291>() else {
         return Err(Unanswered::AnotherLength);
-    }
+    };
     write_run(run, 32, fresh());
     Ok(())
 }
@@ -151,11 +150,11 @@ pub fn weftpillar_line(line: &[u8], step: &mut [u8]) -> Result<(), Unanswered>
     ensures value { result_err result ≡ result_err (line_read line.now step.old) }
     ensures step_after { step.new ≡ line_leaves line.now step.old }
 {
-    if step.len() != 5 {
+    let Some(step) = step.as_mut_array::<5>() else {
         return Err(Unanswered::AnotherLength);
-    }
+    };
     let asked = read_line(line)?;
-    put(step, 0, &step_form(asked));
+    *step = step_form(asked);
     Ok(())
 }
 
@@ -165,9 +164,9 @@ pub fn weftpillar_fresh_place(place: &mut [u8]) -> Result<(), Unanswered>
     ensures value { result_err result ≡ result_err (place_begun place.old) }
     ensures place_after { place.new ≡ fresh_place_leaves place.old }
 {
-    if place.len() != 292 {
+    let Some(place) = place.as_mut_array::<292>() else {
         return Err(Unanswered::AnotherLength);
-    }
+    };
     write_place(place, 32, fresh_place());
     Ok(())
 }
