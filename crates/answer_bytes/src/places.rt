@@ -1,8 +1,8 @@
 // A place of a shown run in bytes: a run, then the mark.
-ghost use Rattle.std.specs.Prelude.{◌≡◌, ◌≤◌, length};
+ghost use Rattle.std.specs.Prelude.{◌≡◌, ◌≤◌};
 ghost use Rattle.answer_bytes.specs.Places.{mark_byte, mark_in, place_in, place_bytes, place_wrong};
 
-use run_bytes::{put, read_run, spells_no_run, write_run};
+use run_bytes::{read_run, spells_no_run, write_run};
 use shown::{Mark, Place};
 
 fn mark_byte(mark: Mark) -> u8
@@ -26,30 +26,30 @@ fn mark_in(byte: u8) -> Mark
     }
 }
 
-#[tactic(auto, using(laws::proofs::Bools::or_true_left), unfolding(crate::specs::Places::place_wrong))]
-pub fn place_wrong(bytes: &[u8], nodes: usize) -> bool
-    requires { (nodes ≤ 32) × (length bytes.now ≡ 292) }
+#[tactic(auto, using(laws::proofs::Bools::or_true_left, run_bytes::proofs::Front::tested_front), unfolding(crate::specs::Places::place_wrong))]
+pub fn place_wrong(bytes: &[u8; 292], nodes: usize) -> bool
+    requires { nodes ≤ 32 }
     ensures { result ≡ place_wrong nodes bytes.now }
 {
-    spells_no_run(bytes, nodes) || 2 < bytes[291]
+    spells_no_run(bytes.first_chunk().unwrap(), nodes) || 2 < bytes[291]
 }
 
-#[tactic(auto, unfolding(crate::specs::Places::place_in))]
-pub fn read_place(bytes: &[u8], nodes: usize) -> Place
-    requires { (nodes ≤ 32) × (length bytes.now ≡ 292) }
+#[tactic(auto, using(run_bytes::proofs::Front::read_front), unfolding(crate::specs::Places::place_in))]
+pub fn read_place(bytes: &[u8; 292], nodes: usize) -> Place
+    requires { nodes ≤ 32 }
     ensures { result ≡ place_in nodes bytes.now }
 {
     Place {
-        run: read_run(bytes, nodes),
+        run: read_run(bytes.first_chunk().unwrap(), nodes),
         mark: mark_in(bytes[291]),
     }
 }
 
-#[tactic(auto, unfolding(crate::specs::Places::place_bytes))]
-pub fn write_place(bytes: &mut [u8], nodes: usize, place: Place)
-    requires { (nodes ≤ 32) × (length bytes.old ≡ 292) }
+#[tactic(auto, using(run_bytes::proofs::Front::written_front), unfolding(crate::specs::Places::place_bytes))]
+pub fn write_place(bytes: &mut [u8; 292], nodes: usize, place: Place)
+    requires { nodes ≤ 32 }
     ensures { bytes.new ≡ place_bytes nodes place bytes.old }
 {
-    write_run(bytes, nodes, place.run);
-    put(bytes, 291, &[mark_byte(place.mark)]);
+    write_run(bytes.first_chunk_mut().unwrap(), nodes, place.run);
+    bytes[291] = mark_byte(place.mark);
 }

@@ -4,3 +4,4 @@ pub mod Written
 pub mod RoundTrip
 pub mod Kept
 pub mod Numbers
+pub mod Front

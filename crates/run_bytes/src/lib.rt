@@ -54,8 +54,7 @@ fn node_in(bytes: &[u8], at: usize) -> NodeState
 }
 
 #[tactic(auto, unfolding(crate::specs::RunBytes::last_in))]
-fn last_in(bytes: &[u8]) -> Option<Slot>
-    requires { 291 ≤ length bytes.now }
+fn last_in(bytes: &[u8; 291]) -> Option<Slot>
     ensures { result ≡ last_in bytes.now }
 {
     if bytes[288] == 0 {
@@ -65,8 +64,8 @@ fn last_in(bytes: &[u8]) -> Option<Slot>
 }
 
 // The run that bytes spell, its first places and its last message; the other places are fresh.
-pub fn read_run(bytes: &[u8], nodes: usize) -> Run
-    requires { (nodes ≤ 32) × (291 ≤ length bytes.now) }
+pub fn read_run(bytes: &[u8; 291], nodes: usize) -> Run
+    requires { nodes ≤ 32 }
     ensures { result ≡ run_in nodes bytes.now }
 {
     let mut places = fresh().nodes;
@@ -93,8 +92,7 @@ fn write_node(bytes: &mut [u8], at: usize, node: NodeState)
     );
 }
 
-fn write_last(bytes: &mut [u8], last: Option<Slot>)
-    requires { 291 ≤ length bytes.old }
+fn write_last(bytes: &mut [u8; 291], last: Option<Slot>)
     ensures { bytes.new ≡ sets bytes.old 288 (last_bytes last) }
 {
     match last {
@@ -107,8 +105,8 @@ fn write_last(bytes: &mut [u8], last: Option<Slot>)
 }
 
 // A run put into bytes: its first places and its last message; every other byte is as it was.
-pub fn write_run(bytes: &mut [u8], nodes: usize, run: Run)
-    requires { (nodes ≤ 32) × (291 ≤ length bytes.old) }
+pub fn write_run(bytes: &mut [u8; 291], nodes: usize, run: Run)
+    requires { nodes ≤ 32 }
     ensures { bytes.new ≡ run_bytes nodes run bytes.old }
 {
     for (k, node) in run.nodes[..nodes].iter().enumerate() {
@@ -126,8 +124,8 @@ fn node_wrong(bytes: &[u8], at: usize) -> bool
 }
 
 // No mode or no mark stands where one of the first places should have it.
-fn some_node_wrong(bytes: &[u8], nodes: usize) -> bool
-    requires { 9 * nodes ≤ length bytes.now }
+fn some_node_wrong(bytes: &[u8; 291], nodes: usize) -> bool
+    requires { nodes ≤ 32 }
     ensures { result ≡ any_below nodes (λ k. node_wrong bytes.now (9 * k)) }
 {
     (0..nodes).any(|k| node_wrong(bytes, 9 * k))
@@ -135,8 +133,8 @@ fn some_node_wrong(bytes: &[u8], nodes: usize) -> bool
 
 // The bytes spell no run: no mode or no mark stands where one of the first places or the last message should have it.
 #[tactic(auto, unfolding(crate::specs::RunBytes::spells_no_run))]
-pub fn spells_no_run(bytes: &[u8], nodes: usize) -> bool
-    requires { (nodes ≤ 32) × (291 ≤ length bytes.now) }
+pub fn spells_no_run(bytes: &[u8; 291], nodes: usize) -> bool
+    requires { nodes ≤ 32 }
     ensures { result ≡ spells_no_run nodes bytes.now }
 {
     some_node_wrong(bytes, nodes) || 1 < bytes[288]
