@@ -3,7 +3,6 @@ use Prim.Native.Nat.{ℕ}
 use mathlib.Core.Path.{◌≡◌, refl, sym, ap, ◌∙◌}
 use mathlib.Core.Bool.{Bool, true, false, cond}
 use mathlib.Core.List.{List}
-use lib.ListN.{length}
 use Rattle.std.specs.Prelude.{Option, None, Some, Result, Ok, Err, IfOk}
 use Rattle.std.specs.Result.{result_err, result_unwrap_or}
 use Rattle.std.proofs.lemmas.Option.{none-some}
@@ -12,15 +11,12 @@ use Rattle.plan.specs.declared.Plan.{Plan}
 use Rattle.plan.specs.declared.refusal.Refusal.{Refusal}
 use Rattle.plan.specs.declared.refusal.Refusal.TheVariants.{RunOutside}
 use Rattle.plan.specs.Refusals.{number_of, refused_number}
-use Rattle.run.specs.declared.Apart.{Apart}
 use Rattle.run.specs.declared.Run.{Run}
 use Rattle.run.specs.declared.Step.{Step}
-use Rattle.run.specs.declared.Step.TheVariants.{Delay, TickOf, SendOf}
 use Rattle.run.specs.declared.tested.TestedRun.{TestedRun}
 use Rattle.run.specs.State.{range_refusal}
 use Rattle.run.specs.Moves.{moved}
 use Rattle.run.specs.Steps.{step_refusal, step_tested}
-use Rattle.answer_bytes.specs.Forms.{apart_bytes, step_bytes}
 use Rattle.byte_calls.specs.Many.{and_then, step_spelt, asked_of}
 use Rattle.byte_calls.specs.TestsAndWrites.{run_for, run_wrong, run_spelt, run_inside}
 
@@ -79,14 +75,3 @@ step_left x before next e = rw (← e) (refl, refl)
 pub refused_left : (x : Result Run Refusal) (before : Run) (r : Refusal) → Some r ≡ result_err x → (before ≡ result_unwrap_or x before) × (number_of r ≡ refused_number x)
 refused_left (Ok next) before r e = absurd (none-some r (sym e))
 refused_left (Err q) before r e = (refl, (let same : r ≡ q = cc in ap number_of same))
-
-pub apart_length : (a : Option Apart) → length (apart_bytes a) ≡ 9
-unfolding apart_bytes
-apart_length None = refl
-apart_length (Some a) = refl
-
-pub step_length : (s : Step) → length (step_bytes s) ≡ 5
-unfolding step_bytes
-step_length (Delay d) = refl
-step_length (TickOf i) = refl
-step_length (SendOf i) = refl

@@ -1,5 +1,5 @@
-// What the exported calls do once the plan in the file is taken and every lent buffer has the right length; and the two tests
-// of that, of files and of lengths.
+// What the exported calls do once the plan in the file is taken and every lent buffer has the right length; and what takes the
+// plan, and the test of steps against their answers.
 #![tactic(auto)]
 
 mod lengths;
@@ -10,7 +10,7 @@ mod spelling;
 mod taking;
 mod verdicts;
 
-pub use lengths::{counts_differ, lengths_differ};
+pub use lengths::counts_differ;
 pub use many::steps_on;
 pub use runs::{apart_on, reckon_on, step_on};
 pub use shown_runs::next_on;

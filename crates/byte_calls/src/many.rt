@@ -41,7 +41,7 @@ fn steps_taken(run: TestedRun, steps: &[u8], answers: &mut [u8]) -> TestedRun
     state
 }
 
-// Many steps on the run in bytes, of a plan that passed 1 to 9, with every buffer of the right length.
+// Many steps on the run in bytes, of a plan that passed 1 to 9, with five bytes of steps for each answer.
 #[tactic(auto, unfolding(crate::specs::TestsAndWrites::steps_asked))]
 pub fn steps_on(
     plan: TestedPlan,

@@ -1,4 +1,4 @@
-// Calls on a run in bytes, of a plan that passed 1 to 9, with every buffer of the right length.
+// Calls on a run in bytes, of a plan that passed 1 to 9.
 ghost use Rattle.std.specs.Prelude.{◌≡◌, Ok, IfOk};
 ghost use Rattle.std.specs.Result.{result_err};
 ghost use Rattle.answer_bytes.specs.Forms.{apart_bytes, ticks_bytes};
