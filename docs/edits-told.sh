@@ -12,17 +12,27 @@ trap 'rm -rf "$work"' EXIT
 # with their clauses, and has an edit for each.
 crates=$(sed -n 's/^\([a-z_0-9]*\):.*/\1/p' crates.txt)
 
-# Public functions that promise something: those of a library's root, and those that the root passes on with `pub use`.
+# Public functions that promise something: those of a library's root, those that the root passes on with `pub use`, and a type's
+# own, as crate::Type::function. Of a trait's function for a type, as crate::Type::from, the promise is the `ghost .. = {` beside it.
 for crate in $crates; do
     root=crates/$crate/src/lib.rt
     [ -f "$root" ] || continue
     passed=" $(tr '\n' ' ' <"$root" | grep -o 'pub use [^;]*;' | sed 's/^pub use [a-z_0-9:]*:://; s/[{},;]/ /g' | tr '\n' ' ' | tr -s ' ')"
     awk -v crate="$crate" -v root="$root" -v passed="$passed" '
-        function told() { if (name != "" && promises && (file == root || index(passed, " " name " "))) print crate "::" name }
-        FNR == 1 { told(); name = ""; file = FILENAME }
-        /^(pub )?(extern "C" )?fn / { told(); name = ""; promises = 0
-            if ($0 ~ /^pub /) { name = $0; sub(/^.*fn /, "", name); sub(/[<(].*/, "", name) } }
-        /^    ensures / { promises = 1 }
+        function told() {
+            if (name != "" && promises && (type != "" || file == root || index(passed, " " name " "))) {
+                print crate "::" (type == "" ? "" : type "::") name
+            }
+            name = ""
+        }
+        FNR == 1 { told(); type = ""; file = FILENAME }
+        /^impl/ { told(); trait = / for /; promised = 0
+            type = $0; sub(/^impl(<[^>]*>)? /, "", type); sub(/^.* for /, "", type); sub(/[ <{].*/, "", type) }
+        /^}/ { told(); type = "" }
+        type != "" && /^    ghost [a-z_]+ = \{/ { promised = 1 }
+        /^(    )?(pub )?(extern "C" )?fn / { told(); promises = trait && type != "" && promised
+            if ($0 ~ /^ *pub / || trait && type != "") { name = $0; sub(/^.*fn /, "", name); sub(/[<(].*/, "", name) } }
+        /^ +ensures / { promises = 1 }
         END { told() }' crates/"$crate"/src/*.rt
 done >"$work/functions"
 

@@ -1,28 +1,20 @@
 // Answers as bytes.
-ghost use Rattle.std.specs.Prelude.{◌≡◌, ◌∷◌};
-ghost use Rattle.run_bytes.specs.Numbers.{be32_bytes};
+ghost use Rattle.std.specs.Prelude.{◌≡◌};
 ghost use Rattle.answer_bytes.specs.Forms.{step_bytes, apart_bytes, ticks_bytes};
 
+use letters::Spelt;
 use run::{Apart, Step, Ticks};
 use run_bytes::put;
 
-fn letter_form(letter: u8, number: u32) -> [u8; 5]
-    ensures { result ≡ letter ∷ be32_bytes number }
-{
-    let mut form = [letter; 5];
-    put(&mut form, 1, &number.to_be_bytes());
-    form
-}
-
-#[tactic(auto, unfolding(crate::specs::Forms::step_bytes))]
+// Its letter, and the length of the delay or the node.
+#[tactic(auto, unfolding(crate::specs::Forms::step_bytes, letters::specs::Letters::spelt_of))]
 pub fn step_form(step: Step) -> [u8; 5]
     ensures { result ≡ step_bytes step }
 {
-    match step {
-        Step::Delay(time) => letter_form(b'D', time.0),
-        Step::TickOf(node) => letter_form(b'T', node.0),
-        Step::SendOf(node) => letter_form(b'S', node.0),
-    }
+    let spelt = Spelt::from(step);
+    let mut form = [u8::from(spelt.letter); 5];
+    put(&mut form, 1, &spelt.number.to_be_bytes());
+    form
 }
 
 #[tactic(auto, unfolding(crate::specs::Forms::apart_bytes))]

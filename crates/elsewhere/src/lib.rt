@@ -26,7 +26,7 @@ fn first_elsewhere(plan: TestedPlan, run: Run, i: Node) -> Option<Node>
     let slot = run.nodes[i.0 as usize].slot;
     let j = run.nodes[..plan.plan.nodes.0 as usize]
         .iter()
-        .position(|node| node.slot.0 != slot.0)?;
+        .position(|node| node.slot != slot)?;
     Some(Node(j as u32))
 }
 

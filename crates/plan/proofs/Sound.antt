@@ -133,22 +133,37 @@ unfolding plan_refusal is_active_outside is_guard_or_tail_wrong is_min_or_max_wr
 passes P S =
     let active = or_neither (eqb P.active.0 0) (ltb P.frame.0 P.active.0) (some_zero P.active.0 S.active_low) (le-ltb P.frame.0 P.active.0 S.active_high) in
     let guards =
-        three_not (eqb P.guard.0 0) (eqb P.tail.0 0) (ltb P.ticks.0 (P.guard.0 + P.tail.0 + 2)) (some_zero P.guard.0 S.guard_low) (some_zero P.tail.0 S.tail_low)
-        (le-ltb P.ticks.0 (P.guard.0 + P.tail.0 + 2) S.guard_tail) in
+    three_not (eqb P.guard.0 0) (eqb P.tail.0 0) (ltb P.ticks.0 (P.guard.0 + P.tail.0 + 2)) (some_zero P.guard.0 S.guard_low) (some_zero P.tail.0 S.tail_low)
+    (le-ltb P.ticks.0 (P.guard.0 + P.tail.0 + 2) S.guard_tail) in
     let times =
-        three_not (eqb P.min.0 0) (ltb P.max.0 P.min.0) (ltb 2000000 P.max.0) (some_zero P.min.0 S.min_low) (le-ltb P.max.0 P.min.0 S.min_max)
-        (le-ltb 2000000 P.max.0 S.max_high) in
+    three_not (eqb P.min.0 0) (ltb P.max.0 P.min.0) (ltb 2000000 P.max.0) (some_zero P.min.0 S.min_low) (le-ltb P.max.0 P.min.0 S.min_max)
+    (le-ltb 2000000 P.max.0 S.max_high) in
     let each_active = any_never P.nodes.0 (λ i. leb P.active.0 (own P i)) (λ i l. lt-leb P.active.0 (own P i) (S.own_active i l)) in
     let none_shared =
-        any_never P.nodes.0 (λ i. any_below i (λ k. eqb (own P k) (own P i)))
-        (λ i l. any_never i (λ k. eqb (own P k) (own P i)) (λ k m. ne_eqb (own P k) (own P i) (λ e. omega (arith, S.own_apart k i (omega arith) l e)))) in
-    off_all (plan_rows P)
-    (inside 3 32 P.nodes.0 S.nodes_low S.nodes_high,
-    (inside 3 4096 P.frame.0 S.frame_low S.frame_high,
-    (active,
-    (inside 4 255 P.ticks.0 S.ticks_low S.ticks_high,
-    (guards,
-    (times,
-    (each_active,
-    (none_shared,
-    (rw S.slot_0_sends refl, tt)))))))))
+    any_never P.nodes.0 (λ i. any_below i (λ k. eqb (own P k) (own P i)))
+    (λ i l. any_never i (λ k. eqb (own P k) (own P i)) (λ k m. ne_eqb (own P k) (own P i) (λ e. omega (arith, S.own_apart k i (omega arith) l e)))) in
+    off_all (plan_rows P) (
+      inside 3 32 P.nodes.0 S.nodes_low S.nodes_high,
+      (
+        inside 3 4096 P.frame.0 S.frame_low S.frame_high,
+        (
+          active,
+          (
+            inside 4 255 P.ticks.0 S.ticks_low S.ticks_high,
+            (
+              guards,
+              (
+                times,
+                (
+                  each_active,
+                  (
+                    none_shared,
+                    (rw S.slot_0_sends refl, tt),
+                  ),
+                ),
+              ),
+            ),
+          ),
+        ),
+      ),
+    )

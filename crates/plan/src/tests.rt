@@ -51,7 +51,7 @@ fn sends_below(plan: Plan, count: usize, slot: Slot) -> bool
     requires { count ≤ 32 }
     ensures { result ≡ sends_below plan count slot.0 }
 {
-    plan.slots[..count].iter().any(|own| own.0 == slot.0)
+    plan.slots[..count].iter().any(|own| *own == slot)
 }
 
 // Node i sends in the slot of a node before it.
@@ -63,17 +63,11 @@ fn shares_slot(plan: Plan, i: usize) -> bool
     sends_below(plan, i, plan.slots[i])
 }
 
-#[tactic(auto, using(laws::proofs::Belows::any_more, laws::proofs::Belows::any_none, laws::proofs::Belows::any_found), unfolding(crate::specs::Tested::some_shared))]
 fn some_shared(plan: Plan) -> bool
     requires { plan.nodes.0 ≤ 32 }
     ensures { result ≡ some_shared plan }
 {
-    for i in 0..plan.nodes.0 as usize {
-        if shares_slot(plan, i) {
-            return true;
-        }
-    }
-    false
+    (0..plan.nodes.0 as usize).any(|i| shares_slot(plan, i))
 }
 
 // 1 to 3: the nodes and the frame.

@@ -1,14 +1,12 @@
 -- One node more in a look round, from the highest down: it is the lowest so far, if it passes.
 use Prim.Native.Nat.{ℕ, suc, ◌+◌, ◌-◌, ◌≤◌, ◌<◌}
-use mathlib.Core.Path.{◌≡◌, refl, sym, ap, ◌∙◌}
+use mathlib.Core.Path.{◌≡◌, refl, ap, ◌∙◌}
 use mathlib.Core.Bool.{Bool, true, false, cond, ◌&&◌}
 use native.Mathlib.Decide.{ℕ_discrete}
 use native.Mathlib.Omega.{arith}
 use borrow.Author.Tests.{lt-ltb, le-ltb}
 use lib.Dec.{ltb}
-use Rattle.std.specs.Prelude.{Option, None, Some, is_some}
-use Rattle.std.specs.Option.{unwrap_or, option_or, option_map}
-use Rattle.std.specs.Bool.{then_some}
+use Rattle.std.specs.Prelude.{Option, None, Some}
 use Rattle.laws.specs.Below.{first_from}
 use Rattle.laws.proofs.Belows.{any_found, any_never, first_is_none}
 use Rattle.plan.specs.declared.Plan.{Plan}
@@ -20,8 +18,8 @@ use Rattle.run.specs.State.{node, is_about, is_sending, sends_apart, is_out_of_s
 use Rattle.shown.specs.declared.Parts.{Parts}
 use Rattle.shown.specs.declared.Place.{Place}
 use Rattle.shown_look.specs.declared.Seen.{Seen}
-use Rattle.shown.specs.Shown.{due_time, is_due, past_due, goes_first, goes_second, lowest_about, lowest_first, lowest_second, lowest_due, time_to_due, next_step}
-use Rattle.shown_look.specs.Looking.{node_below, lowest_from, seen_from, looked_of}
+use Rattle.shown.specs.Shown.{due_time, is_due, past_due, goes_first, goes_second, time_to_due, next_step}
+use Rattle.shown_look.specs.Looking.{lowest_from, seen_from, looked_of}
 
 pub first_earlier : (n i : ℕ) (f : ℕ → Bool) → i < n → cond (f i) i (first_from f (n - (i + 1)) (i + 1)) ≡ first_from f (n - i) i
 unfolding first_from
@@ -45,21 +43,21 @@ from_earlier F n i h more k l m = go (ℕ_discrete k i)
     go (yes e) = rw e h
     go (no e) = more k (omega arith) m
 
-pub first_nothing : (n : ℕ) (f : ℕ → Bool) → first_from f (n - n) n ≡ n
+pub first_nothing : (n : ℕ) (f : ℕ → Bool) → n ≡ first_from f (n - n) n
 unfolding first_from
 first_nothing n f = let q : n - n ≡ 0 = omega arith in rw q
 
-pub lowest_with : (P : Plan) (i : Node) (b : Bool) (here found result : Option Node) (f : ℕ → Bool) → i.0 < P.nodes.0 → b ≡ f i.0 → found ≡ lowest_from P (i.0 + 1) f
-    → here ≡ then_some b i → result ≡ option_or here found → result ≡ lowest_from P i.0 f
-lowest_with P i b here found result f l e d h r = r ∙ rw (h, e, d, sym (first_earlier P.nodes.0 i.0 f l)) (go (f i.0))
+pub lowest_with : (P : Plan) (i found result : Node) (b : Bool) (f : ℕ → Bool) → i.0 < P.nodes.0 → b ≡ f i.0 → found ≡ lowest_from P (i.0 + 1) f → result ≡ cond b i found
+    → result ≡ lowest_from P i.0 f
+lowest_with P i found result b f l e d r = r ∙ rw (e, d) (go (f i.0) refl) ∙ λ j. record { 0 = first_earlier P.nodes.0 i.0 f l j }
   where
-    go : (b : Bool) → option_or (then_some b i) (lowest_from P (i.0 + 1) f) ≡ node_below P (cond b i.0 (first_from f (P.nodes.0 - (i.0 + 1)) (i.0 + 1)))
-    go true = rw (lt-ltb i.0 P.nodes.0 l)
-    go false = refl
+    go : (b : Bool) → f i.0 ≡ b → cond b i (lowest_from P (i.0 + 1) f) ≡ record { 0 = cond b i.0 (first_from f (P.nodes.0 - (i.0 + 1)) (i.0 + 1)) }
+    go true e = refl
+    go false e = refl
 
 module _ (P : Plan) (c : Parts) (q : Place) where
   -- of no node nothing is seen
-  pub seen_nothing : record { about = None; first = None; second = None; due = None; sending = None } ≡ seen_from P c q P.nodes.0
+  pub seen_nothing : record { about = P.nodes; first = P.nodes; second = P.nodes; due = P.nodes; sending = P.nodes } ≡ seen_from P c q P.nodes.0
   unfolding seen_from
   seen_nothing = λ j. record {
     about = nobody (λ k. is_about (node q.run k).mode) j;
@@ -69,8 +67,8 @@ module _ (P : Plan) (c : Parts) (q : Place) where
     sending = nobody (λ k. is_sending (node q.run k).mode) j;
   }
     where
-      nobody : (f : ℕ → Bool) → None ≡ lowest_from P P.nodes.0 f
-      nobody f = rw (first_nothing P.nodes.0 f, le-ltb P.nodes.0 P.nodes.0 (omega arith))
+      nobody : (f : ℕ → Bool) → P.nodes ≡ lowest_from P P.nodes.0 f
+      nobody f = λ j. record { 0 = first_nothing P.nodes.0 f j }
 
   pub late_looked : (i : ℕ) → i < P.nodes.0 → due_time P c q.mark i < (node q.run i).time.0 → None ≡ looked_of P c q
   unfolding looked_of past_due
@@ -80,42 +78,28 @@ module _ (P : Plan) (c : Parts) (q : Place) where
   unfolding looked_of past_due
   on_time_looked h = rw (any_never P.nodes.0 (λ k. ltb (due_time P c q.mark k) (node q.run k).time.0) (λ i l. le-ltb (due_time P c q.mark i) (node q.run i).time.0 (h i l)))
 
-node_is : (P : Plan) (i : ℕ) → is_some (node_below P i) ≡ ltb i P.nodes.0
-node_is P i = go (ltb i P.nodes.0)
-  where
-    go : (b : Bool) → is_some {T = Node} (cond b (Some (record { 0 = i })) None) ≡ b
-    go true = refl
-    go false = refl
-
 -- where nobody was seen sending, the run is not out of step
-pub silent_in_step : (P : Plan) (c : Parts) (q : Place) (seen : Seen) → seen ≡ seen_from P c q 0 → is_some seen.sending ≡ false → is_out_of_step P q.run ≡ false
+pub silent_in_step : (P : Plan) (c : Parts) (q : Place) (seen : Seen) → seen ≡ seen_from P c q 0 → P.nodes.0 ≤ seen.sending.0 → is_out_of_step P q.run ≡ false
 unfolding seen_from is_out_of_step sends_apart
 silent_in_step P c q seen e n = any_never P.nodes.0 (sends_apart P q.run) (λ i l. rw (first_is_none P.nodes.0 (λ k. is_sending (node q.run k).mode) none i l))
   where
+    lowest : seen.sending.0 ≡ first_from (λ k. is_sending (node q.run k).mode) (P.nodes.0 - 0) 0
+    lowest = ap (λ (x : Seen). x.sending.0) e
+
     none : ltb (first_from (λ k. is_sending (node q.run k).mode) P.nodes.0 0) P.nodes.0 ≡ false
-    none = let z : P.nodes.0 - 0 ≡ P.nodes.0 = omega arith in rw z at (sym (node_is P _) ∙ ap (λ (x : Seen). is_some x.sending) (sym e) ∙ n)
+    none = let z : P.nodes.0 - 0 ≡ P.nodes.0 = omega arith in le-ltb _ _ (rw (lowest, z) at n)
 
 -- the step that was seen, where `wait` is the time to the first due moment
-abbrev pub chosen : Seen → Time → Step
-chosen seen wait =
-    unwrap_or (option_or (option_map SendOf seen.about) (option_map TickOf (option_or (option_or seen.first seen.second) seen.due))) (Delay wait)
+abbrev pub chosen : Plan → Seen → Time → Step
+chosen P seen wait =
+    cond (ltb seen.about.0 P.nodes.0) (SendOf seen.about)
+    (cond (ltb seen.first.0 P.nodes.0) (TickOf seen.first)
+    (cond (ltb seen.second.0 P.nodes.0) (TickOf seen.second)
+    (cond (ltb seen.due.0 P.nodes.0) (TickOf seen.due) (Delay wait))))
 
-one_of : Bool → ℕ → Option Node
-one_of b i = cond b (Some (record { 0 = i })) None
-
-chosen_by : (a f s d : ℕ) (about first second due : Bool) (wait : Time) → chosen (record { about = one_of about a; first = one_of first f; second = one_of second s; due = one_of due d; sending = None }) wait
-    ≡ cond about (SendOf (record { 0 = a })) (cond first (TickOf (record { 0 = f })) (cond second (TickOf (record { 0 = s })) (cond due (TickOf (record { 0 = d })) (Delay wait))))
-unfolding one_of
-chosen_by a f s d true first second due wait = refl
-chosen_by a f s d false true second due wait = refl
-chosen_by a f s d false false true due wait = refl
-chosen_by a f s d false false false true wait = refl
-chosen_by a f s d false false false false wait = refl
-
-pub chosen_next : (P : Plan) (c : Parts) (q : Place) (seen : Seen) → seen ≡ seen_from P c q 0 → chosen seen (record { 0 = time_to_due P c q }) ≡ next_step P c q
-unfolding seen_from next_step one_of
-chosen_next P c q seen e = let z : P.nodes.0 - 0 ≡ P.nodes.0 = omega arith in
-    rw e (rw z (chosen_by (lowest_about P q) (lowest_first P c q) (lowest_second P c q) (lowest_due P c q) (ltb (lowest_about P q) P.nodes.0) (ltb (lowest_first P c q) P.nodes.0) (ltb (lowest_second P c q) P.nodes.0) (ltb (lowest_due P c q) P.nodes.0) (record { 0 = time_to_due P c q })))
+pub chosen_next : (P : Plan) (c : Parts) (q : Place) (seen : Seen) → seen ≡ seen_from P c q 0 → chosen P seen (record { 0 = time_to_due P c q }) ≡ next_step P c q
+unfolding seen_from next_step
+chosen_next P c q seen e = let z : P.nodes.0 - 0 ≡ P.nodes.0 = omega arith in rw e (rw z)
 
 -- what a look round tells
 module _ (P : Plan) (parts : Parts) (q : Place) where

@@ -1,5 +1,5 @@
 -- What one look round the nodes finds for the next step.
-use Rattle.std.specs.Prelude.{ℕ, ◌-◌, Bool, cond, ◌&&◌, Option, None, Some, ltb}
+use Rattle.std.specs.Prelude.{ℕ, ◌-◌, Bool, cond, ◌&&◌, Option, None, Some}
 use Rattle.laws.specs.Below.{first_from}
 use Rattle.plan.specs.declared.Plan.{Plan}
 use Rattle.plan.specs.declared.Node.{Node}
@@ -9,13 +9,9 @@ use Rattle.shown.specs.declared.Place.{Place}
 use Rattle.shown_look.specs.declared.Seen.{Seen}
 use Rattle.shown.specs.Shown.{is_due, past_due, goes_first, goes_second}
 
--- The node with this number; none where that is N or more.
-abbrev pub node_below : Plan → ℕ → Option Node
-node_below P i = cond (ltb i P.nodes.0) (Some (record { 0 = i })) None
-
--- The lowest node from i on that passes; none where none does.
-abbrev pub lowest_from : Plan → ℕ → (ℕ → Bool) → Option Node
-lowest_from P i f = node_below P (first_from f (P.nodes.0 - i) i)
+-- The lowest node from i on that passes; N where none does.
+abbrev pub lowest_from : Plan → ℕ → (ℕ → Bool) → Node
+lowest_from P i f = record { 0 = first_from f (P.nodes.0 - i) i }
 
 -- The lowest of the nodes from i on: about to send, due of those who go first, of those who go next, of all, sending.
 unfoldable pub seen_from : Plan → Parts → Place → ℕ → Seen

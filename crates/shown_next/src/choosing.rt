@@ -27,11 +27,18 @@ pub fn next_step(showing: Showing, seen: Seen) -> Step
     requires { seen ≡ seen_from showing.run.plan.plan showing.parts (place_of showing) 0 }
     ensures { result ≡ next_step showing.run.plan.plan showing.parts (place_of showing) }
 {
-    if let Some(i) = seen.about {
-        return Step::SendOf(i);
+    let nodes = showing.run.plan.plan.nodes.0;
+    if seen.about.0 < nodes {
+        return Step::SendOf(seen.about);
     }
-    if let Some(i) = seen.first.or(seen.second).or(seen.due) {
-        return Step::TickOf(i);
+    if seen.first.0 < nodes {
+        return Step::TickOf(seen.first);
+    }
+    if seen.second.0 < nodes {
+        return Step::TickOf(seen.second);
+    }
+    if seen.due.0 < nodes {
+        return Step::TickOf(seen.due);
     }
     Step::Delay(time_to_due(showing))
 }

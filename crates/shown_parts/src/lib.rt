@@ -14,7 +14,7 @@ use shown::Parts;
 fn predecessor_at(node: NodeDistance, gap: Slot, frame: Slot) -> Slot
     ensures { result.0 ≡ cond (eqb node.distance.0 gap.0) node.predecessor.0 frame.0 }
 {
-    if node.distance.0 == gap.0 {
+    if node.distance == gap {
         return node.predecessor;
     }
     frame
@@ -44,7 +44,7 @@ fn widest_node(prepared: Prepared, from: Slot) -> Node
     let nodes = plan.nodes.0 as usize;
     let found = prepared.distances.nodes[..nodes]
         .iter()
-        .position(|node| predecessor_at(*node, gap, plan.frame).0 == from.0);
+        .position(|node| predecessor_at(*node, gap, plan.frame) == from);
     Node(found.unwrap_or(nodes) as u32)
 }
 
@@ -53,9 +53,7 @@ fn sender_in(plan: TestedPlan, slot: Slot) -> Node
     ensures { result.0 ≡ sender_in plan.plan slot.0 }
 {
     let nodes = plan.plan.nodes.0 as usize;
-    let found = plan.plan.slots[..nodes]
-        .iter()
-        .position(|own| own.0 == slot.0);
+    let found = plan.plan.slots[..nodes].iter().position(|own| *own == slot);
     Node(found.unwrap_or(nodes) as u32)
 }
 
@@ -66,7 +64,7 @@ fn first_silent(plan: TestedPlan, p: Slot, s: Slot) -> Node
     let nodes = plan.plan.nodes.0 as usize;
     let found = plan.plan.slots[..nodes]
         .iter()
-        .position(|own| own.0 != p.0 && own.0 != s.0);
+        .position(|own| *own != p && *own != s);
     Node(found.unwrap_or(nodes) as u32)
 }
 

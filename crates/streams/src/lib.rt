@@ -9,7 +9,8 @@ use std::io::Read;
 use std::rt::Files;
 use std::str;
 
-// Reads until the buffer is full, the reader ends or a read fails, and returns how many bytes it put.
+// Reads until the buffer is full, the reader ends or a read fails, and returns how many bytes it put. (How much each read puts is
+// the reader's to say, so the loop has no range or chain.)
 pub fn read_start<R: Read>(from: &mut R, start: &mut [u8]) -> usize
     ensures { result ≤ length start.new }
 {

@@ -47,7 +47,7 @@ pub fn put_word(out: &mut [u8], at: usize, word: &[u8]) -> usize
     end
 }
 
-// A number in decimal: its tenth, then its last digit.
+// A number in decimal: its tenth, then its last digit. (By hand: `write!` to a slice would not say where the text ended.)
 fn put_digits(out: &mut [u8], at: usize, number: u64) -> usize
     requires { at + length (decimal number) ≤ length out.old }
     ensures { Put (length (decimal number)) out.old at (decimal number) out.new result }
@@ -68,7 +68,7 @@ pub fn put_numbered(out: &mut [u8], at: usize, word: &[u8], number: u32) -> usiz
     put_digits(out, digits, number as u64)
 }
 
-// A word and a 64-bit number after it, which has 20 digits at most.
+// A word and a 64-bit number after it, which has 20 digits at most. (Apart from the one above, since it asks for more room.)
 pub fn put_wide(out: &mut [u8], at: usize, word: &[u8], number: u64) -> usize
     requires { at + (length word.now + 20) ≤ length out.old }
     ensures { Put (length word.now + 20) out.old at (word.now ++ decimal number) out.new result }
