@@ -212,7 +212,6 @@ pub step_in_place_one : (P : Plan) (r : Run) (s : Step) (x y : Result (Unit {0})
     → (result_err x ≡ result_err (step_of P r s)) × (l ≡ run_left P r s) → (result_err y ≡ result_err (step_of P r s)) × (m ≡ run_left P r s) → (x ≡ y) × (l ≡ m)
 step_in_place_one P r s x y l m p q = (same_done x y (p.0 ∙ sym q.0), p.1 ∙ sym q.1)
 
-
 pub step_in_place_own : One (λ κ l. l.0.now) step-in-place.Post
 step_in_place_own = by_refusals _ _ (λ κ a x l p. p)
 
@@ -290,7 +289,6 @@ put_ended_one = by_equations _ _ (λ κ a x l p. (p.ends, p.holds))
 module _ (F : RattleType) (laws : Laws F) (call : Ghosts F) (once drop : Dict) (text : List ℕ) where
   pub put_in_room_one : One (λ κ l. l.0.now) (λ κ a x l. Puts call a.1.1.1.0 a.1.1.0 a.0.now a.1.0 text × put-in-room.Post F laws call once drop κ a x l)
   put_in_room_one = by_equations _ _ (λ κ a x l p. (p.1.0 text p.0, p.1.1 text p.0))
-
 
 -- lines, verdict_lines: texts put or written into a lent buffer
 

@@ -1,5 +1,5 @@
 -- The same of the byte forms and of the calls that C and Rust link.
-use mathlib.Core.Path.{◌≡◌, sym, ◌∙◌}
+use mathlib.Core.Path.{sym, ◌∙◌}
 use denote.RattleType.{RattleType}
 use denote.Param.Laws.{Laws}
 use Rattle.run_bytes.proofs.put.Reads as put
@@ -63,7 +63,6 @@ unanswered_from_one κ a x y l m p q = p ∙ sym q
 -- of answers of every type
 pub answer_number_one : (A : RattleType) (laws : Laws A) → OneAnswer (answer-number.Post A laws)
 answer_number_one A laws κ a x y l m p q = p ∙ sym q
-
 
 pub step_form_one : OneAnswer step-form.Post
 step_form_one κ a x y l m p q = p ∙ sym q
