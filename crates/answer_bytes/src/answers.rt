@@ -32,7 +32,7 @@ impl From<Refusal> for Unanswered {
     ghost from_gives = { λ refusal unanswered. unanswered ≡ Refused refusal };
 
     fn from(refusal: Refusal) -> Unanswered {
-        Unanswered::Refused(refusal)
+        Self::Refused(refusal)
     }
 }
 
