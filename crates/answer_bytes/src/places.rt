@@ -5,6 +5,7 @@ ghost use Rattle.answer_bytes.specs.Places.{mark_byte, mark_in, place_in, place_
 use run_bytes::{read_run, spells_no_run, write_run};
 use shown::{Mark, Place};
 
+// A mark's byte, and back. (No `From`: it would stand with the type, in a crate that knows nothing of bytes.)
 fn mark_byte(mark: Mark) -> u8
     ensures { result ≡ mark_byte mark }
 {

@@ -1,4 +1,4 @@
-// A step by its letter and number.
+// A step by its letter and number; the letter is a byte, as a caller outside has it.
 ghost use Rattle.std.specs.Prelude.{◌≡◌};
 ghost use Rattle.byte_calls.specs.Many.{step_spelt};
 

@@ -2,13 +2,11 @@
 ghost use Rattle.std.specs.Prelude.{◌≡◌};
 ghost use Rattle.rules.specs.Rules.{verdict_of};
 
-use gap::{distances_tested, gap_tested};
 use plan::TestedPlan;
-use rules::{Verdict, verdict_tested};
+use rules::{Verdict, prepare};
 
 pub fn verdict_by(plan: TestedPlan) -> Verdict
     ensures { result ≡ verdict_of plan.plan }
 {
-    let gap = gap_tested(plan, distances_tested(plan));
-    verdict_tested(plan, gap)
+    prepare(plan).verdict
 }

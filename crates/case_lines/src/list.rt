@@ -26,7 +26,7 @@ pub fn each_case<F: FnMut(&[u8], &[u8]) -> io::Result<()>>(
     Ok(())
 }
 
-// The letter that says what is asked: the second byte after the colon.
-pub fn asked(parts: &[u8]) -> u8 {
-    parts.get(2).copied().unwrap_or(0)
+// The letter that says what is asked, if there is one: the second byte after the colon.
+pub fn asked(parts: &[u8]) -> Option<u8> {
+    parts.get(2).copied()
 }

@@ -3,6 +3,7 @@ use crate::numbers::number;
 use plan::{Node, Plan, Slot, Tick, Time};
 use std::array;
 
+// Of a line's number as many low bits as a clock or a slot has. (No `From`: of any number it would be wrong.)
 pub fn tick(n: u32) -> Tick {
     Tick((n % 256) as u8)
 }

@@ -5,6 +5,7 @@ use plan::{Slot, Time};
 use run::{Mode, NodeState, Run};
 use std::array;
 
+// By its number in a line; what is no mode's counts as sending.
 fn mode_by(n: u32) -> Mode {
     match n {
         0 => Mode::Waiting,

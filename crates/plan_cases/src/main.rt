@@ -39,7 +39,7 @@ fn plan_case(rt: &impl Print, parts: &[u8]) -> io::Result<()> {
 
 fn case(rt: &(impl Print + Files), name: &[u8], parts: &[u8]) -> io::Result<()> {
     rt.write_all(name)?;
-    if asked(parts) == b'f' {
+    if asked(parts) == Some(b'f') {
         file_case(rt, name)?;
     } else {
         plan_case(rt, parts)?;

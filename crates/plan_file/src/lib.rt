@@ -8,7 +8,8 @@ ghost use Rattle.plan_file.specs.File.{be16_of, be32_of, mark_wrong, is_length_w
 
 use plan::{Node, Plan, Refusal, Slot, TestedPlan, Tick, Time};
 
-// What the reader makes of a file: the plan where it is taken, a plan of zeros where it is refused. (`read_plan` promises the zeros.)
+// What the reader makes of a file: the plan where it is taken, a plan of zeros where it is refused. (Not a `Result` alone, since
+// `read_plan` promises the zeros; `read_tested` is without them.)
 #[derive(Clone, Copy, Debug)]
 pub struct PlanRead {
     pub answer: Result<(), Refusal>,

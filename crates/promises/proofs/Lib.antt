@@ -1,3 +1,4 @@
+pub mod Tested
 pub mod ByEquations
 pub mod Unique
 pub mod UniqueBytes

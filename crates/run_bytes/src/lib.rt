@@ -18,6 +18,7 @@ pub fn put(bytes: &mut [u8], at: usize, form: &[u8])
     bytes[at..at + form.len()].copy_from_slice(form);
 }
 
+// A mode's byte, and back. (No `From`: it would stand with the type, in a crate that knows nothing of bytes.)
 fn mode_byte(mode: Mode) -> u8
     ensures { result ≡ mode_byte mode }
 {

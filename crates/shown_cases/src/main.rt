@@ -15,10 +15,10 @@ use std::rt::Files;
 use streams::read_file_start;
 
 // By its word's first letter.
-fn mark_in(letter: u8) -> Mark {
+fn mark_in(letter: Option<u8>) -> Mark {
     match letter {
-        b'b' => Mark::Before,
-        b'i' => Mark::In,
+        Some(b'b') => Mark::Before,
+        Some(b'i') => Mark::In,
         _ => Mark::After,
     }
 }
@@ -73,7 +73,7 @@ fn run_case(rt: &(impl Print + Files), name: &[u8]) -> io::Result<()> {
 }
 
 fn case(rt: &(impl Print + Files), name: &[u8], parts: &[u8]) -> io::Result<()> {
-    if asked(parts) == b'f' {
+    if asked(parts) == Some(b'f') {
         return run_case(rt, name);
     }
     place_case(rt, name, parts)

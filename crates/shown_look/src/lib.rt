@@ -34,7 +34,7 @@ pub fn due_time(plan: Plan, parts: Parts, mark: Mark, i: Node) -> Time
         Mark::Before => plan.min,
         Mark::In => plan.min,
         Mark::After => {
-            if i.0 == parts.fast.0 {
+            if i == parts.fast {
                 plan.min
             } else {
                 plan.max
@@ -47,7 +47,7 @@ pub fn due_time(plan: Plan, parts: Parts, mark: Mark, i: Node) -> Time
 pub fn guard_ends(plan: Plan, w: Slot, node: NodeState) -> bool
     ensures { result ≡ guard_ends plan w.0 node.clock.0 node.slot.0 }
 {
-    node.slot.0 == w.0 && node.clock.0 as u32 + 1 == plan.guard.0 as u32
+    node.slot == w && node.clock.0 as u32 + 1 == plan.guard.0 as u32
 }
 
 // A tick now would make node i about to send, which has this state.
@@ -71,8 +71,8 @@ fn goes_first(plan: Plan, parts: Parts, mark: Mark, i: Node, state: NodeState) -
 {
     match mark {
         Mark::Before => !turns(plan, i, state),
-        Mark::In => i.0 != parts.fast.0 && i.0 != parts.sender.0,
-        Mark::After => i.0 == parts.fast.0,
+        Mark::In => i != parts.fast && i != parts.sender,
+        Mark::After => i == parts.fast,
     }
 }
 
@@ -83,7 +83,7 @@ fn goes_second(parts: Parts, mark: Mark, i: Node) -> bool
 {
     match mark {
         Mark::Before => true,
-        Mark::In => i.0 != parts.fast.0,
+        Mark::In => i != parts.fast,
         Mark::After => true,
     }
 }

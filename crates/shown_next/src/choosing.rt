@@ -60,7 +60,7 @@ pub fn mark_after(showing: Showing, step: Step) -> Mark
     let sender = showing.run.run.nodes[parts.sender.0 as usize];
     match (showing.mark, step) {
         (Mark::Before, Step::Delay(_)) if pivot_next(plan, parts, sender) => Mark::In,
-        (Mark::In, Step::TickOf(i)) if i.0 == parts.fast.0 => Mark::After,
+        (Mark::In, Step::TickOf(i)) if i == parts.fast => Mark::After,
         (mark, _) => mark,
     }
 }

@@ -10,7 +10,8 @@ use plan::{Node, Slot, TestedPlan};
 use rules::{Prepared, Rule};
 use shown::Parts;
 
-// The predecessor of a node's sending slot where its D is M; C, which is no slot, where it is not.
+// The predecessor of a node's sending slot where its D is M; C, which is no slot, where it is not: so the definition says it, and
+// the least of all is a slot.
 fn predecessor_at(node: NodeDistance, gap: Slot, frame: Slot) -> Slot
     ensures { result.0 ≡ cond (eqb node.distance.0 gap.0) node.predecessor.0 frame.0 }
 {
@@ -34,7 +35,8 @@ fn widest_from(prepared: Prepared) -> Slot
     Slot(least)
 }
 
-// The node that sends in s of rules 1 and 2.
+// The node that sends in s of rules 1 and 2. (Here and below N would stand for none, as the definitions say; of a tested plan there
+// is one, and a part is a node.)
 fn widest_node(prepared: Prepared, from: Slot) -> Node
     requires { from.0 ≡ widest_from prepared.plan.plan }
     ensures { result.0 ≡ widest_node prepared.plan.plan }

@@ -10,8 +10,9 @@ use std::io;
 
 // What is asked: a step by its letter, a send where it is none, and its number.
 fn step_in(parts: &[u8]) -> Step {
+    let letter = asked(parts).and_then(|byte| Letter::try_from(byte).ok());
     Step::from(Spelt {
-        letter: Letter::try_from(asked(parts)).unwrap_or(Letter::S),
+        letter: letter.unwrap_or(Letter::S),
         number: number(parts, 0, 0).unwrap_or(0),
     })
 }

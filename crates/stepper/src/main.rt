@@ -2,7 +2,7 @@
 // `ok` or `refused` and its number. The plan is tested once; answers are written in blocks.
 #![tactic(auto)]
 
-use lines::{write_answer, write_refused};
+use lines::write_answer;
 use pages::Page;
 use plan::{Refusal, TestedPlan};
 use run::TestedRun;
@@ -51,7 +51,8 @@ fn last_line(rt: &impl Print, desk: &Desk, page: &mut Page) -> io::Result<()> {
     page.flush(rt)
 }
 
-// Blocks as they come, until the input ends; a read that fails counts as its end.
+// Blocks as they come, until the input ends; a read that fails counts as its end. (A range, since a loop with no end would need a
+// bound that nothing here may have.)
 fn all_steps(rt: &HostRuntime, plan: TestedPlan) -> io::Result<()> {
     let mut page = Page::new();
     let mut desk = Desk {
@@ -71,12 +72,6 @@ fn all_steps(rt: &HostRuntime, plan: TestedPlan) -> io::Result<()> {
     Ok(())
 }
 
-fn refused(rt: &impl Print, refusal: Refusal) -> io::Result<()> {
-    let mut page = Page::new();
-    page.add(rt, |out, at| write_refused(out, at, refusal))?;
-    page.flush(rt)
-}
-
 // A file that can't be read counts as empty, and so does one without a name; of a file longer than any plan file no more is read
 // than shows that it is.
 fn main(rt: HostRuntime) -> io::Result<()> {
@@ -86,6 +81,6 @@ fn main(rt: HostRuntime) -> io::Result<()> {
     let n = read_file_start(&rt, &path[..length], &mut file);
     match plan_file::read_tested(&file[..n]) {
         Ok(plan) => all_steps(&rt, plan),
-        Err(refusal) => refused(&rt, refusal),
+        Err(refusal) => println!(rt; "{refusal}"),
     }
 }

@@ -1,5 +1,6 @@
 // Text put into a lent buffer: a byte, a word, a word with a number after it. Each asks for the room that it takes; whether there is
-// so much room can be asked.
+// so much room can be asked. (Buffer and place are two, and where one text ends the next is put: in a struct with the lent buffer
+// each clause would be of a loan.)
 #![tactic(auto)]
 
 ghost use Rattle.std.specs.Prelude.{◌≡◌, ℕ, List, [], ◌∷◌, ◌++◌, ◌+◌, ◌≤◌, length, leb};
