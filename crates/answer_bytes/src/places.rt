@@ -27,30 +27,30 @@ fn mark_in(byte: u8) -> Mark
     }
 }
 
-#[tactic(auto, using(laws::proofs::Bools::or_true_left, run_bytes::proofs::Front::tested_front), unfolding(crate::specs::Places::place_wrong))]
+#[tactic(auto, using(laws::proofs::Bools::or_true_left), unfolding(crate::specs::Places::place_wrong))]
 pub fn place_wrong(bytes: &[u8; 292], nodes: usize) -> bool
     requires { nodes ≤ 32 }
     ensures { result ≡ place_wrong nodes bytes.now }
 {
-    spells_no_run(bytes.first_chunk().unwrap(), nodes) || 2 < bytes[291]
+    spells_no_run(bytes, nodes) || 2 < bytes[291]
 }
 
-#[tactic(auto, using(run_bytes::proofs::Front::read_front), unfolding(crate::specs::Places::place_in))]
+#[tactic(auto, unfolding(crate::specs::Places::place_in))]
 pub fn read_place(bytes: &[u8; 292], nodes: usize) -> Place
     requires { nodes ≤ 32 }
     ensures { result ≡ place_in nodes bytes.now }
 {
     Place {
-        run: read_run(bytes.first_chunk().unwrap(), nodes),
+        run: read_run(bytes, nodes),
         mark: mark_in(bytes[291]),
     }
 }
 
-#[tactic(auto, using(run_bytes::proofs::Front::written_front), unfolding(crate::specs::Places::place_bytes))]
+#[tactic(auto, unfolding(crate::specs::Places::place_bytes))]
 pub fn write_place(bytes: &mut [u8; 292], nodes: usize, place: Place)
     requires { nodes ≤ 32 }
     ensures { bytes.new ≡ place_bytes nodes place bytes.old }
 {
-    write_run(bytes.first_chunk_mut().unwrap(), nodes, place.run);
+    write_run(bytes, nodes, place.run);
     bytes[291] = mark_byte(place.mark);
 }

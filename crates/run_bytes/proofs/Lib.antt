@@ -4,4 +4,3 @@ pub mod Written
 pub mod RoundTrip
 pub mod Kept
 pub mod Numbers
-pub mod Front

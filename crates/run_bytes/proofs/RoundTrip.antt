@@ -103,7 +103,7 @@ run_same N l m few h = same_run (run_in N l) (run_in N m) (length_read N l) (len
     place i b (yes k) = node_read N l few i k ∙ node_same l m (9 * i) (λ j low high. h j (omega arith)) ∙ sym (node_read N m few i k)
     place i b (no k) = fresh_read N l i (omega arith) b ∙ sym (fresh_read N m i (omega arith) b)
 
-pub length_nodes : (n : ℕ) (r : Run) (bytes : List ℕ) → length (nodes_bytes n r bytes) ≡ length bytes
+length_nodes : (n : ℕ) (r : Run) (bytes : List ℕ) → length (nodes_bytes n r bytes) ≡ length bytes
 unfolding nodes_bytes
 length_nodes zero r bytes = refl
 length_nodes (suc n) r bytes = length-sets (nodes_bytes n r bytes) (9 * n) (node_bytes (node r n)) ∙ length_nodes n r bytes

@@ -55,7 +55,8 @@ fn node_in(bytes: &[u8], at: usize) -> NodeState
 }
 
 #[tactic(auto, unfolding(crate::specs::RunBytes::last_in))]
-fn last_in(bytes: &[u8; 291]) -> Option<Slot>
+fn last_in(bytes: &[u8]) -> Option<Slot>
+    requires { 291 ≤ length bytes.now }
     ensures { result ≡ last_in bytes.now }
 {
     if bytes[288] == 0 {
@@ -65,8 +66,8 @@ fn last_in(bytes: &[u8; 291]) -> Option<Slot>
 }
 
 // The run that bytes spell, its first places and its last message; the other places are fresh.
-pub fn read_run(bytes: &[u8; 291], nodes: usize) -> Run
-    requires { nodes ≤ 32 }
+pub fn read_run(bytes: &[u8], nodes: usize) -> Run
+    requires { (nodes ≤ 32) × (291 ≤ length bytes.now) }
     ensures { result ≡ run_in nodes bytes.now }
 {
     let mut places = fresh().nodes;
@@ -93,7 +94,8 @@ fn write_node(bytes: &mut [u8], at: usize, node: NodeState)
     );
 }
 
-fn write_last(bytes: &mut [u8; 291], last: Option<Slot>)
+fn write_last(bytes: &mut [u8], last: Option<Slot>)
+    requires { 291 ≤ length bytes.old }
     ensures { bytes.new ≡ sets bytes.old 288 (last_bytes last) }
 {
     match last {
@@ -106,8 +108,8 @@ fn write_last(bytes: &mut [u8; 291], last: Option<Slot>)
 }
 
 // A run put into bytes: its first places and its last message; every other byte is as it was.
-pub fn write_run(bytes: &mut [u8; 291], nodes: usize, run: Run)
-    requires { nodes ≤ 32 }
+pub fn write_run(bytes: &mut [u8], nodes: usize, run: Run)
+    requires { (nodes ≤ 32) × (291 ≤ length bytes.old) }
     ensures { bytes.new ≡ run_bytes nodes run bytes.old }
 {
     for (k, node) in run.nodes[..nodes].iter().enumerate() {
@@ -125,8 +127,8 @@ fn node_wrong(bytes: &[u8], at: usize) -> bool
 }
 
 // No mode or no mark stands where one of the first places should have it.
-fn some_node_wrong(bytes: &[u8; 291], nodes: usize) -> bool
-    requires { nodes ≤ 32 }
+fn some_node_wrong(bytes: &[u8], nodes: usize) -> bool
+    requires { 9 * nodes ≤ length bytes.now }
     ensures { result ≡ any_below nodes (λ k. node_wrong bytes.now (9 * k)) }
 {
     (0..nodes).any(|k| node_wrong(bytes, 9 * k))
@@ -134,8 +136,8 @@ fn some_node_wrong(bytes: &[u8; 291], nodes: usize) -> bool
 
 // The bytes spell no run: no mode or no mark stands where one of the first places or the last message should have it.
 #[tactic(auto, unfolding(crate::specs::RunBytes::spells_no_run))]
-pub fn spells_no_run(bytes: &[u8; 291], nodes: usize) -> bool
-    requires { nodes ≤ 32 }
+pub fn spells_no_run(bytes: &[u8], nodes: usize) -> bool
+    requires { (nodes ≤ 32) × (291 ≤ length bytes.now) }
     ensures { result ≡ spells_no_run nodes bytes.now }
 {
     some_node_wrong(bytes, nodes) || 1 < bytes[288]

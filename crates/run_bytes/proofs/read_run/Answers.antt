@@ -11,7 +11,7 @@ loop-k-init c = rw c.fresh.ensures (over_none _ _)
 
 pub loop-k-preserved : goal.loop-k-preserved
 loop-k-preserved c =
-    let few = c.requires in
+    let few = c.requires.0 in
     let long : length (take c.args.nodes fresh_run.nodes) ≡ c.args.nodes = omega (arith, length-take c.args.nodes fresh_run.nodes, fresh_places) in
     let same : length (take c.args.nodes c.fresh.result.nodes) ≡ length (take c.args.nodes fresh_run.nodes) = rw c.fresh.ensures in
     over_more c.loop-k.k _ (take c.args.nodes fresh_run.nodes) _ fresh_node _ (omega arith) c.loop-k.invariant c.node_in.ensures
@@ -19,7 +19,7 @@ loop-k-preserved c =
 pub returns : goal.returns
 unfolding run_in fresh_run
 returns c =
-    let few = c.requires in
+    let few = c.requires.0 in
     let long : length (take c.args.nodes fresh_run.nodes) ≡ c.args.nodes = omega (arith, length-take c.args.nodes fresh_run.nodes, fresh_places) in
     let same : length (take c.args.nodes c.fresh.result.nodes) ≡ length (take c.args.nodes fresh_run.nodes) = rw c.fresh.ensures in
     let places = over_end c.args.nodes c.loop-k.k _ fresh_run.nodes _ (omega arith) c.loop-k.invariant in
