@@ -16,7 +16,6 @@ use Rattle.answer_bytes.proofs.verdict_form.Reads as verdict-form
 use Rattle.answer_bytes.proofs.place_wrong.Reads as place-wrong
 use Rattle.answer_bytes.proofs.read_place.Reads as read-place
 use Rattle.answer_bytes.proofs.write_place.Reads as write-place
-use Rattle.byte_calls.proofs.lengths_differ.Reads as lengths-differ
 use Rattle.byte_calls.proofs.counts_differ.Reads as counts-differ
 use Rattle.byte_calls.proofs.taken_from.Reads as taken-from
 use Rattle.byte_calls.proofs.verdict_by.Reads as verdict-by
@@ -86,9 +85,6 @@ pub write_place_one : OneLeft (λ κ l. l.0.now) write-place.Post
 write_place_one κ a x y l m p q = p ∙ sym q
 
 -- byte_calls: of a tested plan, with every buffer of the right length
-
-pub lengths_differ_one : OneAnswer lengths-differ.Post
-lengths_differ_one κ a x y l m p q = p ∙ sym q
 
 pub counts_differ_one : OneAnswer counts-differ.Post
 counts_differ_one κ a x y l m p q = p ∙ sym q
