@@ -27,6 +27,7 @@ fn mark_in(byte: u8) -> Mark
     }
 }
 
+// (`nodes ≤ 32` is asked by clause, as in `run_bytes`.)
 #[tactic(auto, using(laws::proofs::Bools::or_true_left), unfolding(crate::specs::Places::place_wrong))]
 pub fn place_wrong(bytes: &[u8; 292], nodes: usize) -> bool
     requires { nodes ≤ 32 }

@@ -18,7 +18,7 @@ fn first_sending(plan: TestedPlan, run: Run) -> Option<Node>
     Some(Node(i as u32))
 }
 
-// The lowest node in another slot than node i.
+// The lowest node in another slot than node i. (`i < N` is asked by clause: a type for a node of one plan would name the plan.)
 fn first_elsewhere(plan: TestedPlan, run: Run, i: Node) -> Option<Node>
     requires { i.0 < plan.plan.nodes.0 }
     ensures { result ≡ lowest plan.plan.nodes.0 (elsewhere run i.0) }

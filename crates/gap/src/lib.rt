@@ -55,7 +55,7 @@ fn free_before(table: &[bool], most: Slot, slot: Slot) -> Slot
     requires { (most.0 ≤ slot.0) × (slot.0 < length table.now) }
     ensures { (result.0 ≤ most.0) × (Free table.now slot.0 result.0) }
 {
-    // The number of the turn is the answer and the way back, which a chain would count in another type.
+    // Tried as `find` over these numbers: that none before the found one is taken stayed open.
     for count in 0..most.0 {
         if table[(slot.0 - count) as usize] {
             return Slot(count);
@@ -109,7 +109,7 @@ pub fn distances_tested(plan: TestedPlan) -> Distances
         distance: Slot(0),
     }; 32];
     let own = &plan.plan.slots[..plan.plan.nodes.0 as usize];
-    // By its place: a `zip` with the places written to keeps from the loop what they hold already.
+    // By its place. Tried as `zip` with the places written to: what they hold already stayed open in the proof.
     for (i, slot) in own.iter().enumerate() {
         nodes[i] = node_distance(plan, &table, *slot);
     }

@@ -3,9 +3,9 @@
 #![tactic(auto)]
 
 use elsewhere::apart_tested;
-use lines::{write_out, write_step};
+use lines::{write_out, write_refused, write_step};
 use pages::Page;
-use plan::TestedPlan;
+use plan::{Refusal, TestedPlan};
 use plan_file::read_tested;
 use rules::{Prepared, prepare};
 use run::TestedRun;
@@ -42,10 +42,17 @@ fn judged(rt: &impl Print, plan: TestedPlan) -> io::Result<()> {
     page.flush(rt)
 }
 
+// The one line of a file that holds no plan.
+fn refused(rt: &impl Print, refusal: Refusal) -> io::Result<()> {
+    let mut page = Page::new();
+    page.add(rt, |out, at| write_refused(out, at, refusal))?;
+    page.flush(rt)
+}
+
 // The judge's whole text of a plan file, on standard output: of a refused one a line.
 pub fn tell(rt: &impl Print, file: &[u8]) -> io::Result<()> {
     match read_tested(file) {
         Ok(plan) => judged(rt, plan),
-        Err(refusal) => println!(rt; "{refusal}"),
+        Err(refusal) => refused(rt, refusal),
     }
 }

@@ -46,7 +46,8 @@ fn slot_after(plan: TestedPlan, c0: Tick, slot: Slot, mode: Mode) -> Slot
     }
 }
 
-// All decided on the clock before the tick, the pending mark cleared.
+// All decided on the clock before the tick, the pending mark cleared. (That the node is in range is asked by clause: it is one of a
+// `TestedRun`'s, and a type for it would stand with no maker but an index.)
 #[tactic(auto, using(run::proofs::Ranges::within_node))]
 fn node_ticked(plan: TestedPlan, own: Slot, node: NodeState) -> NodeState
     requires { node_in_range plan.plan node ≡ true }
@@ -113,7 +114,7 @@ fn node_hearing(plan: TestedPlan, node: NodeState) -> NodeState
     ensures { result ≡ node_hearing plan.plan node }
 {
     NodeState {
-        pending: node.pending || node.slot.0 < plan.plan.active.0,
+        pending: node.pending || node.slot < plan.plan.active,
         ..node
     }
 }

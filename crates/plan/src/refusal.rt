@@ -62,14 +62,6 @@ impl Refusal {
     }
 }
 
-impl From<Refusal> for u8 {
-    ghost from_gives = { λ refusal number. number ≡ number_of refusal };
-
-    fn from(refusal: Refusal) -> u8 {
-        refusal.number()
-    }
-}
-
 impl fmt::Display for Refusal {
     fn fmt<W: fmt::Write>(&self, f: &mut fmt::Formatter<W>) -> fmt::Result {
         write!(f, "refused {}", self.number())

@@ -5,7 +5,7 @@ ghost use Rattle.laws.specs.Row.{first_given, outside};
 ghost use Rattle.plan.specs.Sending.{sends_below};
 ghost use Rattle.plan.specs.Tested.{is_active_outside, is_guard_or_tail_wrong, is_min_or_max_wrong, shares_slot, some_not_active, some_shared, frame_rows, ticks_rows, slot_rows};
 
-use crate::{Plan, Refusal, Slot};
+use crate::{Plan, Refusal, Slot, Time};
 
 fn is_outside(low: u32, high: u32, x: u32) -> bool
     ensures { result ≡ outside low high x }
@@ -17,7 +17,7 @@ fn is_outside(low: u32, high: u32, x: u32) -> bool
 fn active_outside(plan: Plan) -> bool
     ensures { result ≡ is_active_outside plan }
 {
-    plan.active.0 == 0 || plan.frame.0 < plan.active.0
+    plan.active == Slot(0) || plan.frame < plan.active
 }
 
 #[tactic(auto, unfolding(crate::specs::Tested::is_guard_or_tail_wrong))]
@@ -33,17 +33,17 @@ fn guard_or_tail_wrong(plan: Plan) -> bool
 fn min_or_max_wrong(plan: Plan) -> bool
     ensures { result ≡ is_min_or_max_wrong plan }
 {
-    plan.min.0 == 0 || plan.max.0 < plan.min.0 || 2000000 < plan.max.0
+    plan.min == Time(0) || plan.max < plan.min || Time(2000000) < plan.max
 }
 
-// A sending slot is n or more.
+// A sending slot is n or more. (N ≤ 32 is asked by clause: these are the tests that a `TestedPlan` is made by.)
 fn some_not_active(plan: Plan) -> bool
     requires { plan.nodes.0 ≤ 32 }
     ensures { result ≡ some_not_active plan }
 {
     plan.slots[..plan.nodes.0 as usize]
         .iter()
-        .any(|own| plan.active.0 <= own.0)
+        .any(|own| plan.active <= *own)
 }
 
 // Some node below count sends in the slot.

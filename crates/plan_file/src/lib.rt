@@ -4,7 +4,7 @@
 ghost use Rattle.std.specs.Prelude.{◌≡◌, ◌+◌, ◌*◌, ◌≤◌, ◌<◌, length, IfOk};
 ghost use Rattle.std.specs.Result.{result_err};
 ghost use Rattle.laws.specs.Bytes.{byte_at};
-ghost use Rattle.plan_file.specs.File.{be16_of, be32_of, mark_wrong, is_length_wrong, file_refusal, slot_at, slots_of, plan_of, no_plan, read_of};
+ghost use Rattle.plan_file.specs.File.{be16_of, be32_of, mark_wrong, is_length_wrong, file_refusal, slots_of, plan_of, no_plan, read_of};
 
 use plan::{Node, Plan, Refusal, Slot, TestedPlan, Tick, Time};
 
@@ -65,27 +65,20 @@ fn file_tested(file: &[u8]) -> Result<(), Refusal>
     Ok(())
 }
 
-// The sending slot at a place; 0 from N on.
-#[tactic(auto, unfolding(crate::specs::File::slot_at))]
-fn slot_at(file: &[u8], place: usize) -> Slot
-    requires { (place < 32) × (21 ≤ length file.now) × (21 + 2 * byte_at file.now 5 ≤ length file.now) }
-    ensures { result.0 ≡ slot_at file.now place }
-{
-    let nodes = usize::from(file[5]);
-    if place < nodes {
-        return Slot(be16(file, 21 + 2 * place));
-    }
-    Slot(0)
-}
-
+// The sending slots: at a place from N on it is 0.
 #[tactic(auto, using(laws::proofs::Overs::over_none))]
 fn slots_in(file: &[u8]) -> [Slot; 32]
     requires { (21 ≤ length file.now) × (21 + 2 * byte_at file.now 5 ≤ length file.now) }
     ensures { result ≡ slots_of file.now }
 {
+    let nodes = usize::from(file[5]);
     let mut slots = [Slot(0); 32];
     for (place, slot) in slots.iter_mut().enumerate() {
-        *slot = slot_at(file, place);
+        *slot = if place < nodes {
+            Slot(be16(file, 21 + 2 * place))
+        } else {
+            Slot(0)
+        };
     }
     slots
 }

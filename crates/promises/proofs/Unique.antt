@@ -17,7 +17,6 @@ use Rattle.run.specs.Steps.{step_of, run_left}
 use Rattle.shown.specs.declared.Given.{Given}
 use Rattle.text.specs.Written.{Puts}
 use Rattle.plan.proofs.refusal.Refusal.number.Reads as refusal-number
-use Rattle.plan.proofs.refusal.U8FromRefusal.from.Reads as refusal-to-byte
 use Rattle.plan.proofs.Plan.tested.Reads as plan-tested
 use Rattle.plan_file.proofs.be16.Reads as be16
 use Rattle.plan_file.proofs.be32.Reads as be32
@@ -26,7 +25,6 @@ use Rattle.plan_file.proofs.read_plan.Reads as read-plan
 use Rattle.gap.proofs.distances_tested.Reads as distances-tested
 use Rattle.gap.proofs.gap_tested.Reads as gap-tested
 use Rattle.rules.proofs.Rule.number.Reads as rule-number
-use Rattle.rules.proofs.U8FromRule.from.Reads as rule-to-byte
 use Rattle.rules.proofs.Sides.holds.Reads as sides-hold
 use Rattle.rules.proofs.verdict_tested.Reads as verdict-tested
 use Rattle.rules.proofs.judge.Reads as judge
@@ -94,9 +92,6 @@ slot n = record { 0 = n }
 pub refusal_number_one : OneAnswer refusal-number.Post
 refusal_number_one κ a x y l m p q = p ∙ sym q
 
-pub refusal_to_byte_one : OneAnswer refusal-to-byte.Post
-refusal_to_byte_one κ a x y l m p q = p ∙ sym q
-
 pub plan_tested_one : OneAnswer plan-tested.Post
 plan_tested_one κ a x y l m p q = same_result x y (p.0 ∙ sym q.0) p.1 q.1 (λ s t u v. same_plan s t (u ∙ sym v))
 
@@ -126,9 +121,6 @@ gap_tested_one κ a x y l m p q = ap (λ (n : ℕ). slot n) (p ∙ sym q)
 
 pub rule_number_one : OneAnswer rule-number.Post
 rule_number_one κ a x y l m p q = p ∙ sym q
-
-pub rule_to_byte_one : OneAnswer rule-to-byte.Post
-rule_to_byte_one κ a x y l m p q = p ∙ sym q
 
 pub sides_hold_one : OneAnswer sides-hold.Post
 sides_hold_one κ a x y l m p q = p ∙ sym q

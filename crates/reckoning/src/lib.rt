@@ -15,7 +15,7 @@ fn below_zero(plan: Plan, last: Option<Slot>, node: NodeState) -> bool
     ensures { result ≡ below_zero plan last node }
 {
     match last {
-        Some(slot) => node.slot == slot && !node.pending && node.clock.0 < plan.guard.0,
+        Some(slot) => node.slot == slot && !node.pending && node.clock < plan.guard,
         None => false,
     }
 }
@@ -57,7 +57,7 @@ fn reckoning_refusal(plan: TestedPlan, run: Run, i: Node) -> Result<(), Refusal>
     ensures { result_err result ≡ reckoning_refusal plan.plan run i.0 }
 {
     run.tested(plan)?;
-    if plan.plan.nodes.0 <= i.0 {
+    if plan.plan.nodes <= i {
         return Err(Refusal::NodeUnknown);
     }
     if below_zero(plan.plan, run.last, run.nodes[i.0 as usize]) {

@@ -29,14 +29,6 @@ impl Rule {
     }
 }
 
-impl From<Rule> for u8 {
-    ghost from_gives = { λ rule number. number ≡ rule_number rule };
-
-    fn from(rule: Rule) -> u8 {
-        rule.number()
-    }
-}
-
 // The two sides of a rule, which holds where left is less than right.
 #[derive(Clone, Copy, Debug, PartialEq, Eq)]
 pub struct Sides {

@@ -9,14 +9,14 @@ use plan::{Plan, Slot, TestedPlan};
 fn node_in_range(plan: Plan, node: NodeState) -> bool
     ensures { result ≡ node_in_range plan node }
 {
-    node.clock.0 < plan.ticks.0 && node.slot.0 < plan.frame.0 && node.time.0 <= plan.max.0
+    node.clock < plan.ticks && node.slot < plan.frame && node.time <= plan.max
 }
 
 fn last_in_range(plan: Plan, last: Option<Slot>) -> bool
     ensures { result ≡ last_in_range plan last }
 {
     match last {
-        Some(slot) => slot.0 < plan.frame.0,
+        Some(slot) => slot < plan.frame,
         None => true,
     }
 }

@@ -65,6 +65,7 @@ fn last_in(bytes: &[u8]) -> Option<Slot>
     Some(Slot(be16(bytes, 289)))
 }
 
+// (`nodes ≤ 32` is asked by clause, not by a `TestedPlan`: bytes are spelt with no plan at hand.)
 // The run that bytes spell, its first places and its last message; the other places are fresh.
 pub fn read_run(bytes: &[u8], nodes: usize) -> Run
     requires { (nodes ≤ 32) × (291 ≤ length bytes.now) }

@@ -33,13 +33,7 @@ pub fn due_time(plan: Plan, parts: Parts, mark: Mark, i: Node) -> Time
     match mark {
         Mark::Before => plan.min,
         Mark::In => plan.min,
-        Mark::After => {
-            if i == parts.fast {
-                plan.min
-            } else {
-                plan.max
-            }
-        }
+        Mark::After => { if i == parts.fast { plan.min } else { plan.max } }
     }
 }
 
@@ -50,7 +44,8 @@ pub fn guard_ends(plan: Plan, w: Slot, node: NodeState) -> bool
     node.slot == w && node.clock.0 as u32 + 1 == plan.guard.0 as u32
 }
 
-// A tick now would make node i about to send, which has this state.
+// A tick now would make node i about to send, which has this state. (`i < 32` is asked
+// by clause: a type for it would be a fourth number beside slot, node and tick, for three functions.)
 #[tactic(auto, unfolding(run::specs::Moves::mode_after))]
 fn turns(plan: Plan, i: Node, state: NodeState) -> bool
     requires { i.0 < 32 }
@@ -129,9 +124,11 @@ pub fn look_round(plan: TestedPlan, parts: Parts, place: Place) -> Option<Seen>
         due: plan.nodes,
         sending: plan.nodes,
     };
+    // By number, the highest first: the number is what is kept.
     for i in (0..plan.nodes.0).rev() {
         let state = place.run.nodes[i as usize];
-        if due_time(plan, parts, place.mark, Node(i)).0 < state.time.0 {
+        let due = due_time(plan, parts, place.mark, Node(i));
+        if due < state.time {
             return None;
         }
         seen = seen_with(plan, parts, place.mark, Node(i), state, seen);

@@ -27,6 +27,7 @@ pub fn next_step(showing: Showing, seen: Seen) -> Step
     requires { seen ≡ seen_from showing.run.plan.plan showing.parts (place_of showing) 0 }
     ensures { result ≡ next_step showing.run.plan.plan showing.parts (place_of showing) }
 {
+    // By number: as `seen.about < nodes` the later returns' proofs didn't close.
     let nodes = showing.run.plan.plan.nodes.0;
     if seen.about.0 < nodes {
         return Step::SendOf(seen.about);

@@ -25,8 +25,7 @@ fn is_out(showing: Showing, seen: Seen) -> bool
     requires { seen ≡ seen_from showing.run.plan.plan showing.parts (place_of showing) 0 }
     ensures { result ≡ is_out_of_step showing.run.plan.plan showing.run.run }
 {
-    seen.sending.0 < showing.run.plan.plan.nodes.0
-        && is_out_of_step(showing.run.plan, showing.run.run)
+    seen.sending < showing.run.plan.plan.nodes && is_out_of_step(showing.run.plan, showing.run.run)
 }
 
 // The next step, and the place after it; none where the run is finished.

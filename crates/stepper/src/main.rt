@@ -72,6 +72,13 @@ fn all_steps(rt: &HostRuntime, plan: TestedPlan) -> io::Result<()> {
     Ok(())
 }
 
+// The one line of a file that holds no plan.
+fn refused(rt: &HostRuntime, refusal: Refusal) -> io::Result<()> {
+    let mut page = Page::new();
+    put_answer(rt, &mut page, Err(refusal))?;
+    page.flush(rt)
+}
+
 // A file that can't be read counts as empty, and so does one without a name; of a file longer than any plan file no more is read
 // than shows that it is.
 fn main(rt: HostRuntime) -> io::Result<()> {
@@ -81,6 +88,6 @@ fn main(rt: HostRuntime) -> io::Result<()> {
     let n = read_file_start(&rt, &path[..length], &mut file);
     match plan_file::read_tested(&file[..n]) {
         Ok(plan) => all_steps(&rt, plan),
-        Err(refusal) => println!(rt; "{refusal}"),
+        Err(refusal) => refused(&rt, refusal),
     }
 }

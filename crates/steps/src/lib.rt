@@ -53,10 +53,11 @@ fn delay_refusal(run: TestedRun, d: Time) -> Result<(), Refusal>
 fn tick_refusal(run: TestedRun, i: Node) -> Result<(), Refusal>
     ensures { result_err result ≡ first_given (step_rows run.plan.plan run.run (TickOf i)) }
 {
-    if run.plan.plan.nodes.0 <= i.0 {
+    if run.plan.plan.nodes <= i {
         return Err(Refusal::NodeUnknown);
     }
-    if run.run.nodes[i.0 as usize].time.0 < run.plan.plan.min.0 {
+    let node = run.run.nodes[i.0 as usize];
+    if node.time < run.plan.plan.min {
         return Err(Refusal::TickTooEarly);
     }
     Ok(())
@@ -67,7 +68,7 @@ fn tick_refusal(run: TestedRun, i: Node) -> Result<(), Refusal>
 fn send_refusal(run: TestedRun, i: Node) -> Result<(), Refusal>
     ensures { result_err result ≡ first_given (step_rows run.plan.plan run.run (SendOf i)) }
 {
-    if run.plan.plan.nodes.0 <= i.0 {
+    if run.plan.plan.nodes <= i {
         return Err(Refusal::NodeUnknown);
     }
     if !run.run.nodes[i.0 as usize].mode.is_about_to_send() {

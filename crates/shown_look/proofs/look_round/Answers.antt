@@ -1,4 +1,4 @@
-use Rattle.std.proofs.Common.{◌≡◌, ◌-◌, ap, ◌∙◌, arith, rules}
+use Rattle.std.proofs.Common.{◌≡◌, ◌-◌, ap, ◌∙◌, arith, rules, tests}
 use Rattle.std.specs.Prelude.{Some}
 use Rattle.shown_look.specs.Looking.{seen_from}
 use Rattle.shown_look.proofs.Looks.{seen_nothing, late_looked, on_time_looked}
@@ -7,9 +7,9 @@ use Rattle.shown_look.proofs.look_round.Goals as goal
 pub loop-i-init : goal.loop-i-init
 loop-i-init c = (λ k l m. absurd (omega arith), seen_nothing c.args.plan.plan c.args.parts c.args.place)
 
-pub returns-then-due_time-state : goal.returns-then-due_time-state
-returns-then-due_time-state c =
-    late_looked c.args.plan.plan c.args.parts c.args.place (c.loop-i.i - 1) (search rules) (rw (← c.due_time.ensures) c.if-due_time-state.true)
+pub returns-then-lt : goal.returns-then-lt
+returns-then-lt c =
+    late_looked c.args.plan.plan c.args.parts c.args.place (c.loop-i.i - 1) (search rules) (rw (← c.due_time-due.ensures) (search (rules, tests)))
 
 pub returns : goal.returns
 returns c =
