@@ -1,19 +1,10 @@
 // A verdict as 51 bytes.
 ghost use Rattle.std.specs.Prelude.{◌≡◌, ◌+◌, ◌≤◌, length};
 ghost use Rattle.std.proofs.lemmas.List.Edits.{sets};
-ghost use Rattle.answer_bytes.specs.Forms.{outcome_number, sides_bytes, verdict_bytes};
+ghost use Rattle.answer_bytes.specs.Forms.{sides_bytes, verdict_bytes};
 
 use rules::{Rule, Sides, Verdict};
 use run_bytes::put;
-
-fn outcome_number(failed: Option<Rule>) -> u8
-    ensures { result ≡ outcome_number failed }
-{
-    match failed {
-        Some(rule) => rule.number(),
-        None => 0,
-    }
-}
 
 fn put_sides(bytes: &mut [u8], at: usize, sides: Sides)
     requires { at + 16 ≤ length bytes.old }
@@ -27,7 +18,7 @@ pub fn verdict_form(verdict: Verdict) -> [u8; 51]
     ensures { result ≡ verdict_bytes verdict }
 {
     let mut form = [0; 51];
-    put(&mut form, 0, &[outcome_number(verdict.failed)]);
+    put(&mut form, 0, &[verdict.failed.map_or(0, Rule::number)]);
     put(&mut form, 1, &verdict.gap.0.to_be_bytes());
     put_sides(&mut form, 3, verdict.one);
     put_sides(&mut form, 19, verdict.two);

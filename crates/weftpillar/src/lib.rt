@@ -42,9 +42,9 @@ pub fn weftpillar_judge(plan: &[u8], verdict: &mut [u8]) -> Result<(), Unanswere
     ensures value { result_err result ≡ result_err (judged plan.now verdict.old) }
     ensures verdict_after { verdict.new ≡ judge_leaves plan.now verdict.old }
 {
-    let Some(verdict) = verdict.as_mut_array::<51>() else {
-        return Err(Unanswered::AnotherLength);
-    };
+    let verdict = verdict
+        .as_mut_array::<51>()
+        .ok_or(Unanswered::AnotherLength)?;
     let plan = taken_from(plan)?;
     *verdict = verdict_form(verdict_by(plan));
     Ok(())
@@ -56,9 +56,7 @@ pub fn weftpillar_fresh(run: &mut [u8]) -> Result<(), Unanswered>
     ensures value { result_err result ≡ result_err (begun run.old) }
     ensures run_after { run.new ≡ fresh_leaves run.old }
 {
-    let Some(run) = run.as_mut_array::<291>() else {
-        return Err(Unanswered::AnotherLength);
-    };
+    let run = run.as_mut_array::<291>().ok_or(Unanswered::AnotherLength)?;
     write_run(run, 32, fresh());
     Ok(())
 }
@@ -74,9 +72,7 @@ pub fn weftpillar_step(
     ensures value { result_err result ≡ result_err (stepped plan.now run.old letter number) }
     ensures run_after { run.new ≡ step_leaves plan.now run.old letter number }
 {
-    let Some(run) = run.as_mut_array::<291>() else {
-        return Err(Unanswered::AnotherLength);
-    };
+    let run = run.as_mut_array::<291>().ok_or(Unanswered::AnotherLength)?;
     let plan = taken_from(plan)?;
     step_on(plan, run, letter, number)?;
     Ok(())
@@ -94,9 +90,7 @@ pub fn weftpillar_steps(
     ensures run_after { run.new ≡ steps_leaves_run plan.now run.old steps.now answers.old }
     ensures answers_after { answers.new ≡ steps_leaves_answers plan.now run.old steps.now answers.old }
 {
-    let Some(run) = run.as_mut_array::<291>() else {
-        return Err(Unanswered::AnotherLength);
-    };
+    let run = run.as_mut_array::<291>().ok_or(Unanswered::AnotherLength)?;
     if counts_differ(steps.len(), answers.len()) {
         return Err(Unanswered::AnotherLength);
     }
@@ -111,12 +105,8 @@ pub fn weftpillar_out_of_step(plan: &[u8], run: &[u8], answer: &mut [u8]) -> Res
     ensures value { result_err result ≡ result_err (apart plan.now run.now answer.old) }
     ensures answer_after { answer.new ≡ apart_leaves plan.now run.now answer.old }
 {
-    let Some(run) = run.as_array::<291>() else {
-        return Err(Unanswered::AnotherLength);
-    };
-    let Some(answer) = answer.as_mut_array::<9>() else {
-        return Err(Unanswered::AnotherLength);
-    };
+    let run = run.as_array::<291>().ok_or(Unanswered::AnotherLength)?;
+    let answer = answer.as_mut_array::<9>().ok_or(Unanswered::AnotherLength)?;
     let plan = taken_from(plan)?;
     apart_on(plan, run, answer)?;
     Ok(())
@@ -133,12 +123,8 @@ pub fn weftpillar_reckon(
     ensures value { result_err result ≡ result_err (reckoned plan.now run.now node ticks.old) }
     ensures ticks_after { ticks.new ≡ reckon_leaves plan.now run.now node ticks.old }
 {
-    let Some(run) = run.as_array::<291>() else {
-        return Err(Unanswered::AnotherLength);
-    };
-    let Some(ticks) = ticks.as_mut_array::<4>() else {
-        return Err(Unanswered::AnotherLength);
-    };
+    let run = run.as_array::<291>().ok_or(Unanswered::AnotherLength)?;
+    let ticks = ticks.as_mut_array::<4>().ok_or(Unanswered::AnotherLength)?;
     let plan = taken_from(plan)?;
     reckon_on(plan, run, node, ticks)?;
     Ok(())
@@ -150,9 +136,7 @@ pub fn weftpillar_line(line: &[u8], step: &mut [u8]) -> Result<(), Unanswered>
     ensures value { result_err result ≡ result_err (line_read line.now step.old) }
     ensures step_after { step.new ≡ line_leaves line.now step.old }
 {
-    let Some(step) = step.as_mut_array::<5>() else {
-        return Err(Unanswered::AnotherLength);
-    };
+    let step = step.as_mut_array::<5>().ok_or(Unanswered::AnotherLength)?;
     let asked = read_line(line)?;
     *step = step_form(asked);
     Ok(())
@@ -164,9 +148,9 @@ pub fn weftpillar_fresh_place(place: &mut [u8]) -> Result<(), Unanswered>
     ensures value { result_err result ≡ result_err (place_begun place.old) }
     ensures place_after { place.new ≡ fresh_place_leaves place.old }
 {
-    let Some(place) = place.as_mut_array::<292>() else {
-        return Err(Unanswered::AnotherLength);
-    };
+    let place = place
+        .as_mut_array::<292>()
+        .ok_or(Unanswered::AnotherLength)?;
     write_place(place, 32, fresh_place());
     Ok(())
 }
@@ -178,12 +162,10 @@ pub fn weftpillar_next(plan: &[u8], place: &mut [u8], step: &mut [u8]) -> Result
     ensures place_after { place.new ≡ next_leaves_place plan.now place.old step.old }
     ensures step_after { step.new ≡ next_leaves_step plan.now place.old step.old }
 {
-    let Some(place) = place.as_mut_array::<292>() else {
-        return Err(Unanswered::AnotherLength);
-    };
-    let Some(step) = step.as_mut_array::<5>() else {
-        return Err(Unanswered::AnotherLength);
-    };
+    let place = place
+        .as_mut_array::<292>()
+        .ok_or(Unanswered::AnotherLength)?;
+    let step = step.as_mut_array::<5>().ok_or(Unanswered::AnotherLength)?;
     let plan = taken_from(plan)?;
     next_on(plan, place, step)
 }
