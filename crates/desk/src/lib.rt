@@ -16,7 +16,7 @@ pub fn step_in_place(run: &mut Run, plan: Plan, step: Step) -> Result<(), Refusa
     Ok(())
 }
 
-// A step at the desk: the run is kept here and moved on in place.
+// A step at the desk: the run is kept here and moved on in place. (A pair, not a run in `Ok`: of a refused step too it says the run.)
 pub fn step_at_desk(run: Run, plan: Plan, step: Step) -> (Result<(), Refusal>, Run)
     ensures { (result_err result.0 ≡ result_err (step_of plan run step)) × (result.1 ≡ run_left plan run step) }
 {

@@ -11,7 +11,7 @@ use plan::Refusal;
 use run::{Apart, Step};
 use text::{put_byte, put_ended, put_in_room, put_numbered, put_word};
 
-// The line of a refusal, for whoever has room for it.
+// The line of a refusal, for whoever has room for it. (Buffer and place as in `text`.)
 pub fn put_refused(out: &mut [u8], at: usize, refusal: Refusal) -> usize
     requires { at + 19 ≤ length out.old }
     ensures { Put 19 out.old at (refused_line refusal) out.new result }

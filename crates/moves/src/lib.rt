@@ -20,7 +20,8 @@ fn clock_after(plan: TestedPlan, pending: bool, c0: Tick) -> Tick
     Tick((c0.0 + 1) % plan.plan.ticks.0)
 }
 
-// The mode after it. Waiting in its own slot with c0 = g − 1: about to send. Sending with c0 = k0 − t − 1: waiting.
+// The mode after it. Waiting in its own slot with c0 = g − 1: about to send. Sending with c0 = k0 − t − 1: waiting. (Clocks by number
+// where a tick less is counted, here and below.)
 #[tactic(auto, unfolding(run::specs::Moves::mode_after))]
 fn mode_after(plan: TestedPlan, own: Slot, c0: Tick, slot: Slot, mode: Mode) -> Mode
     ensures { result ≡ mode_after plan.plan own.0 c0.0 slot.0 mode }

@@ -24,7 +24,7 @@ pub struct Node(pub u32);
 #[derive(Clone, Copy, Debug, PartialEq, Eq, PartialOrd, Ord)]
 pub struct Time(pub u32);
 
-// A plan as it is handed in, tested or not. Places of `slots` from `nodes` on mean nothing.
+// A plan as it is handed in, tested or not. Places of `slots` from `nodes` on mean nothing. (32 places and N, since nothing is on a heap.)
 #[derive(Clone, Copy, Debug)]
 pub struct Plan {
     // N

@@ -16,6 +16,7 @@ pub struct PlanRead {
     pub plan: Plan,
 }
 
+// A number of two bytes, and one of four, the high byte first. (Two functions: the library's `from_be_bytes` is each width's own.)
 #[tactic(auto, unfolding(crate::specs::File::be16_of))]
 pub fn be16(file: &[u8], at: usize) -> u16
     requires { at + 1 < length file.now }

@@ -10,7 +10,7 @@ use plan::{Slot, Tick, Time};
 use plan_file::{be16, be32};
 use run::{Mode, NodeState, Run, fresh};
 
-// A form of any length put from a place on.
+// A form of any length put from a place on. (Bytes are slices here, long enough by clause: an array would ask for one length.)
 pub fn put(bytes: &mut [u8], at: usize, form: &[u8])
     requires { at + length form.now ≤ length bytes.old }
     ensures { bytes.new ≡ sets bytes.old at form.now }

@@ -98,6 +98,7 @@ fn seen_with(plan: Plan, parts: Parts, mark: Mark, i: Node, state: NodeState, af
     ensures { (q : Place) → q.mark ≡ mark → node q.run i.0 ≡ state → after ≡ seen_from plan parts q (i.0 + 1) → result ≡ seen_from plan parts q i.0 }
 {
     let about = state.mode.is_about_to_send();
+    // by number: with times compared as such the proof didn't close
     let due = state.time.0 == due_time(plan, parts, mark, i).0;
     // `&` and not `&&`: a look round that branches on each node makes a step take 1.4 times as long
     let first = due & goes_first(plan, parts, mark, i, state);

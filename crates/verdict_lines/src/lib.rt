@@ -22,6 +22,7 @@ fn put_holds(out: &mut [u8], at: usize, sides: Sides) -> usize
     put_word(out, at, b" fails\n")
 }
 
+// (Buffer and place as in `text`.)
 fn put_rule(out: &mut [u8], at: usize, rule: Rule, sides: Sides) -> usize
     requires { at + 64 ≤ length out.old }
     ensures { Put 64 out.old at (rule_line rule sides) out.new result }
