@@ -1,7 +1,7 @@
 -- Every public function's own contract leaves one answer, and one content of what was lent: all of them, by crate, methods and
--- conversions (`From`, `TryFrom`) too. None stands here for what promises no one answer: `judging::tell`, the functions of `pages` and
--- the texts of `Display` promise nothing of what they write, and `streams` says how much is read at most. Equality and `Debug` that are
--- derived are not listed. The byte forms and the calls that C and Rust link are in UniqueBytes.
+-- conversions (`From`, `TryFrom`) too. None stands here for what promises no one answer: `judging::tell` and the texts of `Display`
+-- promise nothing of what they write, `flush` and `add` of a page answer whether text could go out, and `streams` says how much is read
+-- at most. Equality and `Debug` that are derived are not listed. The byte forms and the calls that C and Rust link are in UniqueBytes.
 use mathlib.Core.Path.{◌≡◌, sym, ap, ◌∙◌}
 use denote.RattleType.{RattleType}
 use denote.Param.Laws.{Laws}
@@ -71,6 +71,7 @@ use Rattle.text.proofs.put_wide.Reads as put-wide
 use Rattle.text.proofs.put_ended.Reads as put-ended
 use Rattle.text.proofs.put_in_room.Reads as put-in-room
 use Rattle.text.specs.contracts.put_in_room.F-FnOnce.{Ghosts}
+use Rattle.pages.proofs.Page.new.Reads as new-page
 use Rattle.lines.proofs.put_refused.Reads as put-refused
 use Rattle.lines.proofs.write_step.Reads as write-step
 use Rattle.lines.proofs.write_out.Reads as write-out
@@ -281,6 +282,11 @@ put_ended_one = by_equations _ _ (λ κ a x l p. (p.ends, p.holds))
 module _ (F : RattleType) (laws : Laws F) (call : Ghosts F) (once drop : Dict) (text : List ℕ) where
   pub put_in_room_one : One (λ κ l. l.0.now) (λ κ a x l. Puts call a.1.1.1.0 a.1.1.0 a.0.now a.1.0 text × put-in-room.Post F laws call once drop κ a x l)
   put_in_room_one = by_equations _ _ (λ κ a x l p. (p.1.0 text p.0, p.1.1 text p.0))
+
+-- pages
+
+pub new_page_one : OneAnswer new-page.Post
+new_page_one κ a x y l m p q = p ∙ sym q
 
 -- lines, verdict_lines: texts put or written into a lent buffer
 
