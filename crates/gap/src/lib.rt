@@ -1,7 +1,7 @@
 // The gap of a plan: for each node the predecessor of its sending slot and the distance to it, and M, the largest.
 #![tactic(auto)]
 
-ghost use Rattle.std.specs.Prelude.{◌≡◌, ◌≤◌, ◌<◌, length};
+ghost use Rattle.std.specs.Prelude.{◌≡◌, ◌≤◌, ◌<◌, false, length, replicate};
 ghost use Rattle.plan.specs.Sending.{sends};
 ghost use Rattle.gap.specs.Gap.{slot_before, nearest, gap_of};
 ghost use Rattle.gap.specs.Distances.{Occupied, taken, Free, node_distance, distances_of};
@@ -21,15 +21,14 @@ pub struct Distances {
     pub nodes: [NodeDistance; 32],
 }
 
-// The table of occupied slots: whether some node sends in each.
-fn occupied(plan: TestedPlan) -> [bool; 4096]
-    ensures { Occupied (sends plan.plan) result }
+// The table of occupied slots: whether some node sends in each. (The table is lent, with no slot taken: handed out, it lies on the stack twice more.)
+fn occupied(plan: TestedPlan, table: &mut [bool; 4096])
+    requires { table.old ≡ replicate 4096 false }
+    ensures { Occupied (sends plan.plan) table.new }
 {
-    let mut table = [false; 4096];
     for own in &plan.plan.slots[..plan.plan.nodes.0 as usize] {
         table[own.0 as usize] = true;
     }
-    table
 }
 
 // The slot before, backwards round the frame.
@@ -103,7 +102,8 @@ fn node_distance(plan: TestedPlan, table: &[bool], slot: Slot) -> NodeDistance
 pub fn distances_tested(plan: TestedPlan) -> Distances
     ensures { result ≡ distances_of plan.plan }
 {
-    let table = occupied(plan);
+    let mut table = [false; 4096];
+    occupied(plan, &mut table);
     let mut nodes = [NodeDistance {
         predecessor: Slot(0),
         distance: Slot(0),

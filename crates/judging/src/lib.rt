@@ -45,7 +45,7 @@ fn judged(rt: &impl Print, plan: TestedPlan) -> io::Result<()> {
 // The one line of a file that holds no plan.
 fn refused(rt: &impl Print, refusal: Refusal) -> io::Result<()> {
     let mut page = Page::new();
-    page.add(rt, |out, at| write_refused(out, at, refusal))?;
+    page.add(rt, |out, at| write_refused(out, at, refusal.number()))?;
     page.flush(rt)
 }
 

@@ -1,7 +1,7 @@
 -- Laws of the questions about the numbers below n.
 use Prim.Native.Nat.{ℕ, zero, suc, ◌+◌, ◌≤◌, ◌<◌, min, max}
 use mathlib.Core.Path.{◌≡◌, refl}
-use mathlib.Core.Bool.{Bool, true, false}
+use mathlib.Core.Bool.{Bool, true, false, ◌||◌}
 use native.Mathlib.Nat.{not-suc-le-zero}
 use native.Mathlib.Numerals.{add-one}
 use native.Mathlib.Decide.{ℕ_discrete, dec_le, dec_lt}
@@ -16,6 +16,10 @@ use Rattle.laws.proofs.Bools.{clash, and_true_left, and_true_right, and_both, or
 pub any_none : (f : ℕ → Bool) → any_below 0 f ≡ false
 unfolding any_below
 any_none f = refl
+
+pub any_next : (n : ℕ) (f : ℕ → Bool) → any_below (n + 1) f ≡ (any_below n f || f n)
+unfolding any_below
+any_next n f = rw add-one refl
 
 pub any_more : (n : ℕ) (f : ℕ → Bool) → any_below n f ≡ false → f n ≡ false → any_below (n + 1) f ≡ false
 unfolding any_below

@@ -11,7 +11,8 @@ use Rattle.run.specs.declared.Step.TheVariants.{Delay, TickOf, SendOf}
 use Rattle.letters.specs.declared.Letter.{Letter}
 use Rattle.letters.specs.declared.Letter.TheVariants.{D, T, S}
 use Rattle.letters.specs.declared.NoLetter.{NoLetter}
-use Rattle.letters.specs.Letters.{spelt_of, is_letter, letter_of, byte_of, step_spelt}
+use Rattle.std.specs.Result.{result_unwrap_or}
+use Rattle.letters.specs.Letters.{spelt_of, is_letter, letter_of, byte_of, step_by, step_spelt}
 
 pub byte_is_letter : (letter : Letter) → is_letter (byte_of letter) ≡ true
 unfolding is_letter
@@ -46,3 +47,14 @@ module _ (b : ℕ) where
 
   pub no_letter : {none : NoLetter} → letter_of b ≡ Err none → is_letter b ≡ false
   no_letter e = rw e at (letter_known b)
+
+-- what is no letter counts as S
+pub step_byte : (b n : ℕ) → step_spelt (record { letter = result_unwrap_or (letter_of b) S; number = n }) ≡ step_by b n
+unfolding letter_of
+step_byte b n = go (eqb b 68) (eqb b 84) (eqb b 83) refl refl refl
+  where
+    go : (d t s : _) → eqb b 68 ≡ d → eqb b 84 ≡ t → eqb b 83 ≡ s → step_spelt (record { letter = result_unwrap_or (letter_of b) S; number = n }) ≡ step_by b n
+    go true t s d-is t-is s-is = rw d-is refl
+    go false true s d-is t-is s-is = rw (d-is, t-is) refl
+    go false false true d-is t-is s-is = rw (d-is, t-is, s-is) refl
+    go false false false d-is t-is s-is = rw (d-is, t-is, s-is) refl

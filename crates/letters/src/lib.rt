@@ -3,7 +3,7 @@
 
 ghost use Rattle.std.specs.Prelude.{◌≡◌};
 ghost use Rattle.plan.specs.declared.refusal.Refusal.TheVariants.{LineWrong};
-ghost use Rattle.letters.specs.Letters.{spelt_of, byte_of, letter_of, step_spelt};
+ghost use Rattle.letters.specs.Letters.{spelt_of, byte_of, letter_of, step_by, step_spelt};
 
 use plan::{Node, Refusal, Time};
 use run::Step;
@@ -106,4 +106,14 @@ impl From<Spelt> for Step {
             Letter::S => Step::SendOf(Node(number)),
         }
     }
+}
+
+// The step that a byte for a letter and a number spell; a byte that is no letter counts as S.
+pub fn step_by(letter: u8, number: u32) -> Step
+    ensures { result ≡ step_by letter number }
+{
+    Step::from(Spelt {
+        letter: Letter::try_from(letter).unwrap_or(Letter::S),
+        number: number,
+    })
 }

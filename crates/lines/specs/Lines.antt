@@ -7,9 +7,9 @@ use Rattle.run.specs.declared.Step.{Step}
 use Rattle.letters.specs.Letters.{spelt_of, byte_of}
 use Rattle.text.specs.Text.{bytes, numbered, ended}
 
--- The one line of a refusal.
-abbrev pub refused_line : Refusal → List ℕ
-refused_line refusal = ended "refused " (number_of refusal)
+-- The one line of a refusal, by its number.
+abbrev pub refused_line : ℕ → List ℕ
+refused_line number = ended "refused " number
 
 -- A step line: the step's letter, a blank, its number.
 unfoldable pub step_text : Step → List ℕ
@@ -18,7 +18,7 @@ step_text s = byte_of (spelt_of s).letter ∷ ended " " (spelt_of s).number
 -- The stepping program's answer to a step.
 unfoldable pub answer_text : Result Unit Refusal → List ℕ
 answer_text (Ok done) = bytes "ok\n"
-answer_text (Err refusal) = refused_line refusal
+answer_text (Err refusal) = refused_line (number_of refusal)
 
 -- The last line of a shown run: the lowest sending node with a node elsewhere, and the lowest such node.
 unfoldable pub out_text : Apart → List ℕ

@@ -11,12 +11,12 @@ use plan::Refusal;
 use run::{Apart, Step};
 use text::{put_byte, put_ended, put_in_room, put_numbered, put_word};
 
-// The line of a refusal, for whoever has room for it. (Buffer and place as in `text`.)
-pub fn put_refused(out: &mut [u8], at: usize, refusal: Refusal) -> usize
+// The line of a refusal by its number, whatever that is, for whoever has room for it. (Buffer and place as in `text`.)
+pub fn put_refused(out: &mut [u8], at: usize, number: u8) -> usize
     requires { at + 19 ≤ length out.old }
-    ensures { Put 19 out.old at (refused_line refusal) out.new result }
+    ensures { Put 19 out.old at (refused_line number) out.new result }
 {
-    put_ended(out, at, b"refused ", refusal.number() as u32)
+    put_ended(out, at, b"refused ", number as u32)
 }
 
 #[tactic(auto, unfolding(crate::specs::Lines::step_text))]
@@ -36,7 +36,7 @@ fn put_answer(out: &mut [u8], at: usize, answer: Result<(), Refusal>) -> usize
 {
     match answer {
         Ok(()) => put_word(out, at, b"ok\n"),
-        Err(refusal) => put_refused(out, at, refusal),
+        Err(refusal) => put_refused(out, at, refusal.number()),
     }
 }
 
@@ -73,10 +73,10 @@ pub fn write_answer(out: &mut [u8], at: usize, answer: Result<(), Refusal>) -> O
     put_in_room(out, at, 32, |out| put_answer(out, at, answer))
 }
 
-// The one line of a refusal.
-pub fn write_refused(out: &mut [u8], at: usize, refusal: Refusal) -> Option<usize>
-    ensures value { result ≡ wrote_of 32 out.old at (refused_line refusal) }
-    ensures out_after { out.new ≡ buffer_of 32 out.old at (refused_line refusal) }
+// The one line of a refusal, by its number.
+pub fn write_refused(out: &mut [u8], at: usize, number: u8) -> Option<usize>
+    ensures value { result ≡ wrote_of 32 out.old at (refused_line number) }
+    ensures out_after { out.new ≡ buffer_of 32 out.old at (refused_line number) }
 {
-    put_in_room(out, at, 32, |out| put_refused(out, at, refusal))
+    put_in_room(out, at, 32, |out| put_refused(out, at, number))
 }

@@ -46,12 +46,16 @@ fn some_not_active(plan: Plan) -> bool
         .any(|own| plan.active <= *own)
 }
 
-// Some node below count sends in the slot.
+// Some node below count sends in the slot. (All are asked, with no way out, so that several are compared at a time.)
 fn sends_below(plan: Plan, count: usize, slot: Slot) -> bool
     requires { count ≤ 32 }
     ensures { result ≡ sends_below plan count slot.0 }
 {
-    plan.slots[..count].iter().any(|own| *own == slot)
+    let mut found = false;
+    for own in &plan.slots[..count] {
+        found |= *own == slot;
+    }
+    found
 }
 
 // Node i sends in the slot of a node before it.

@@ -1,6 +1,6 @@
 -- What refusals 20 to 22 let through, files long enough for what is read of them; and which of 20 to 22 and 1 to 9 speaks first.
 use Prim.Native.Nat.{ℕ, ◌+◌, ◌*◌, ◌≤◌}
-use mathlib.Core.Path.{◌≡◌, sym, ap, ◌∙◌}
+use mathlib.Core.Path.{◌≡◌, refl, sym, ap, ◌∙◌}
 use mathlib.Core.Bool.{true, false, not, ◌||◌}
 use mathlib.Core.List.{List, []}
 use borrow.Author.Tests.{ltb-false, eqb-true, eq-eqb, ne_eqb}
@@ -9,7 +9,7 @@ use lib.Dec.{eqb, ltb}
 use Rattle.laws.proofs.Bools.{or_false_left, or_false_right, false_not_true}
 use Rattle.laws.specs.Row.{given}
 use Rattle.laws.proofs.Rows.{all_off, off_all, first_here, first_next}
-use Rattle.std.specs.Prelude.{Option, None, Some, Err}
+use Rattle.std.specs.Prelude.{Option, None, Some, Ok, Err}
 use Rattle.std.proofs.lemmas.Option.{none-some}
 use Rattle.std.specs.Result.{result_err}
 use Rattle.std.specs.Option.{option_or}
@@ -86,3 +86,13 @@ refused_read file r e = go (option_or (file_refusal file) (plan_refusal (plan_of
     go : (x : Option Refusal) → Some r ≡ result_err (read_by x (plan_of file)).answer → record { answer = Err r; plan = no_plan } ≡ read_by x (plan_of file)
     go (Some q) h = let same : r ≡ q = cc in rw same
     go None h = absurd (none-some r (sym h))
+
+-- a plan that the reader takes passed 1 to 9
+pub taken_passes : (file : List ℕ) → (read_of file).answer ≡ Ok tt → plan_refusal (read_of file).plan ≡ None
+unfolding read_of
+taken_passes file e = go (file_refusal file) (plan_refusal (plan_of file)) refl e
+  where
+    go : (x y : Option Refusal) → plan_refusal (plan_of file) ≡ y → (read_by (option_or x y) (plan_of file)).answer ≡ Ok tt → plan_refusal (read_by (option_or x y) (plan_of file)).plan ≡ None
+    go (Some r) y p h = cc
+    go None (Some r) p h = cc
+    go None None p h = p

@@ -63,6 +63,7 @@ use Rattle.letters.proofs.U8FromLetter.from.Reads as letter-to-byte
 use Rattle.letters.proofs.LetterTryFromU8.try_from.Reads as byte-to-letter
 use Rattle.letters.proofs.SpeltFromStep.from.Reads as step-to-spelt
 use Rattle.letters.proofs.StepFromSpelt.from.Reads as spelt-to-step
+use Rattle.letters.proofs.step_by.Reads as step-by
 use Rattle.text.proofs.has_room.Reads as has-room
 use Rattle.text.proofs.put_byte.Reads as put-byte
 use Rattle.text.proofs.put_word.Reads as put-word
@@ -257,6 +258,9 @@ step_to_spelt_one κ a x y l m p q = p ∙ sym q
 
 pub spelt_to_step_one : OneAnswer spelt-to-step.Post
 spelt_to_step_one κ a x y l m p q = p ∙ sym q
+
+pub step_by_one : OneAnswer step-by.Post
+step_by_one κ a x y l m p q = p ∙ sym q
 
 -- text: bytes put into a lent buffer
 

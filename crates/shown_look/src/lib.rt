@@ -11,8 +11,8 @@ ghost use Rattle.shown.specs.declared.Place.{Place};
 ghost use Rattle.shown_look.specs.Looking.{seen_from, looked_of};
 
 use plan::{Node, Plan, Slot, TestedPlan, Time};
-use run::{Mode, NodeState};
-use shown::{Mark, Parts, Place};
+use run::{Mode, NodeState, Run};
+use shown::{Mark, Parts};
 
 // The lowest node about to send, the lowest due of those who go first, of those who go next, of all, and the lowest sending;
 // N where there is none: with an option for each, a step of a shown run takes 1.7 times as long.
@@ -44,28 +44,27 @@ pub fn guard_ends(plan: Plan, w: Slot, node: NodeState) -> bool
     node.slot == w && node.clock.0 as u32 + 1 == plan.guard.0 as u32
 }
 
-// A tick now would make node i about to send, which has this state. (`i < 32` is asked
-// by clause: a type for it would be a fourth number beside slot, node and tick, for three functions.)
+// A tick now would make a node about to send that sends in slot `own` and has this state.
 #[tactic(auto, unfolding(run::specs::Moves::mode_after))]
-fn turns(plan: Plan, i: Node, state: NodeState) -> bool
-    requires { i.0 < 32 }
-    ensures { result ≡ is_about (mode_after plan (own plan i.0) state.clock.0 state.slot.0 state.mode) }
+fn turns(plan: Plan, own: Slot, state: NodeState) -> bool
+    ensures { result ≡ is_about (mode_after plan own.0 state.clock.0 state.slot.0 state.mode) }
 {
     match state.mode {
-        Mode::Waiting => guard_ends(plan, plan.slots[i.0 as usize], state),
+        Mode::Waiting => guard_ends(plan, own, state),
         Mode::AboutToSend => true,
         Mode::Sending => false,
     }
 }
 
-// Node i, which has this state, is among those who tick first.
+// Node i, with this sending slot and state, is among those who tick first. (The slot is read beside the state: read in here, where it is
+// needed, it makes the look round branch on each node.)
 #[tactic(auto, unfolding(shown::specs::Shown::goes_first))]
-fn goes_first(plan: Plan, parts: Parts, mark: Mark, i: Node, state: NodeState) -> bool
-    requires { i.0 < 32 }
+fn goes_first(plan: Plan, parts: Parts, mark: Mark, i: Node, slot: Slot, state: NodeState) -> bool
+    requires { slot.0 ≡ own plan i.0 }
     ensures { (run : Run) → node run i.0 ≡ state → result ≡ goes_first plan parts run mark i.0 }
 {
     match mark {
-        Mark::Before => !turns(plan, i, state),
+        Mark::Before => !turns(plan, slot, state),
         Mark::In => i != parts.fast && i != parts.sender,
         Mark::After => i == parts.fast,
     }
@@ -90,18 +89,26 @@ fn lower(passes: bool, i: Node, after: Node) -> Node
     if passes { i } else { after }
 }
 
-// What was seen of the nodes after i, with node i, which has this state.
+// What was seen of the nodes after i, with node i, which has this sending slot and state.
 #[tactic(auto, unfolding(crate::specs::Looking::seen_from))]
-fn seen_with(plan: Plan, parts: Parts, mark: Mark, i: Node, state: NodeState, after: Seen) -> Seen
+fn seen_with(
+    plan: Plan,
+    parts: Parts,
+    mark: Mark,
+    i: Node,
+    slot: Slot,
+    state: NodeState,
+    after: Seen,
+) -> Seen
+    requires slot_value { slot.0 ≡ own plan i.0 }
     requires i_lt_nodes { i.0 < plan.nodes.0 }
-    requires i_lt_32 { i.0 < 32 }
     ensures { (q : Place) → q.mark ≡ mark → node q.run i.0 ≡ state → after ≡ seen_from plan parts q (i.0 + 1) → result ≡ seen_from plan parts q i.0 }
 {
     let about = state.mode.is_about_to_send();
     // by number: with times compared as such the proof didn't close
     let due = state.time.0 == due_time(plan, parts, mark, i).0;
     // `&` and not `&&`: a look round that branches on each node makes a step take 1.4 times as long
-    let first = due & goes_first(plan, parts, mark, i, state);
+    let first = due & goes_first(plan, parts, mark, i, slot, state);
     let second = due & goes_second(parts, mark, i);
     let sending = state.mode.is_sending();
     Seen {
@@ -113,9 +120,9 @@ fn seen_with(plan: Plan, parts: Parts, mark: Mark, i: Node, state: NodeState, af
     }
 }
 
-// Every node looked at, the highest first; none where a time is past due.
-pub fn look_round(plan: TestedPlan, parts: Parts, place: Place) -> Option<Seen>
-    ensures { result ≡ looked_of plan.plan parts place }
+// Every node looked at, the highest first, in this run with this mark; none where a time is past due.
+fn look_with(plan: TestedPlan, parts: Parts, run: &Run, mark: Mark) -> Option<Seen>
+    ensures { result ≡ looked_of plan.plan parts (record { run = run.now; mark = mark }) }
 {
     let plan = plan.plan;
     let mut seen = Seen {
@@ -127,12 +134,24 @@ pub fn look_round(plan: TestedPlan, parts: Parts, place: Place) -> Option<Seen>
     };
     // By number, the highest first: the number is what is kept.
     for i in (0..plan.nodes.0).rev() {
-        let state = place.run.nodes[i as usize];
-        let due = due_time(plan, parts, place.mark, Node(i));
+        let slot = plan.slots[i as usize];
+        let state = run.nodes[i as usize];
+        let due = due_time(plan, parts, mark, Node(i));
         if due < state.time {
             return None;
         }
-        seen = seen_with(plan, parts, place.mark, Node(i), state, seen);
+        seen = seen_with(plan, parts, mark, Node(i), slot, state, seen);
     }
     Some(seen)
+}
+
+// The same, mark by mark: so the mark is asked once and not for each node, without which a step of a shown run takes a third longer.
+pub fn look_round(plan: TestedPlan, parts: Parts, run: &Run, mark: Mark) -> Option<Seen>
+    ensures { result ≡ looked_of plan.plan parts (record { run = run.now; mark = mark }) }
+{
+    match mark {
+        Mark::Before => look_with(plan, parts, run, Mark::Before),
+        Mark::In => look_with(plan, parts, run, Mark::In),
+        Mark::After => look_with(plan, parts, run, Mark::After),
+    }
 }

@@ -35,7 +35,12 @@ pub fn given_tested(showing: Showing) -> Option<(Step, Showing)>
     ensures given { option_map given_with result ≡ given_by showing.run.plan.plan showing.parts (place_of showing) }
     ensures same { IfSome result (λ taken. (taken.1.run.plan.plan ≡ showing.run.plan.plan) × (taken.1.parts ≡ showing.parts)) }
 {
-    let seen = look_round(showing.run.plan, showing.parts, Place::from(showing))?;
+    let seen = look_round(
+        showing.run.plan,
+        showing.parts,
+        &showing.run.run,
+        showing.mark,
+    )?;
     if is_out(showing, seen) {
         return None;
     }
@@ -58,7 +63,12 @@ pub fn showing(prepared: Prepared, run: TestedRun, mark: Mark) -> Option<Showing
     let rule = prepared.verdict.failed?;
     Some(Showing {
         run: run,
-        parts: parts_tested(prepared, rule),
+        parts: parts_tested(
+            prepared.plan,
+            prepared.distances,
+            prepared.verdict.gap,
+            rule,
+        ),
         mark: mark,
     })
 }

@@ -3,11 +3,13 @@
 
 ghost use Rattle.std.specs.Prelude.{◌≡◌, cond, ◌&&◌, eqb};
 ghost use Rattle.laws.specs.Below.{first_below};
+ghost use Rattle.gap.specs.Gap.{gap_of};
+ghost use Rattle.gap.specs.Distances.{distances_of};
 ghost use Rattle.shown.specs.Parts.{widest_from, widest_node, sender_in, silent_in, parts_with, parts_for};
 
-use gap::NodeDistance;
+use gap::{Distances, NodeDistance};
 use plan::{Node, Slot, TestedPlan};
-use rules::{Prepared, Rule};
+use rules::Rule;
 use shown::Parts;
 
 // The predecessor of a node's sending slot where its D is M; C, which is no slot, where it is not: so the definition says it, and
@@ -22,12 +24,13 @@ fn predecessor_at(node: NodeDistance, gap: Slot, frame: Slot) -> Slot
 }
 
 // p of rules 1 and 2.
-fn widest_from(prepared: Prepared) -> Slot
-    ensures { result.0 ≡ widest_from prepared.plan.plan }
+fn widest_from(plan: TestedPlan, distances: Distances, gap: Slot) -> Slot
+    requires distances_value { distances ≡ distances_of plan.plan }
+    requires gap_value { gap.0 ≡ gap_of plan.plan }
+    ensures { result.0 ≡ widest_from plan.plan }
 {
-    let plan = prepared.plan.plan;
-    let gap = prepared.verdict.gap;
-    let least = prepared.distances.nodes[..plan.nodes.0 as usize]
+    let plan = plan.plan;
+    let least = distances.nodes[..plan.nodes.0 as usize]
         .iter()
         .fold(plan.frame.0, |least, node| {
             least.min(predecessor_at(*node, gap, plan.frame).0)
@@ -37,14 +40,15 @@ fn widest_from(prepared: Prepared) -> Slot
 
 // The node that sends in s of rules 1 and 2. (Here and below N would stand for none, as the definitions say; of a tested plan there
 // is one, and a part is a node.)
-fn widest_node(prepared: Prepared, from: Slot) -> Node
-    requires { from.0 ≡ widest_from prepared.plan.plan }
-    ensures { result.0 ≡ widest_node prepared.plan.plan }
+fn widest_node(plan: TestedPlan, distances: Distances, gap: Slot, from: Slot) -> Node
+    requires distances_value { distances ≡ distances_of plan.plan }
+    requires gap_value { gap.0 ≡ gap_of plan.plan }
+    requires from_value { from.0 ≡ widest_from plan.plan }
+    ensures { result.0 ≡ widest_node plan.plan }
 {
-    let plan = prepared.plan.plan;
-    let gap = prepared.verdict.gap;
+    let plan = plan.plan;
     let nodes = plan.nodes.0 as usize;
-    let found = prepared.distances.nodes[..nodes]
+    let found = distances.nodes[..nodes]
         .iter()
         .position(|node| predecessor_at(*node, gap, plan.frame) == from);
     Node(found.unwrap_or(nodes) as u32)
@@ -80,21 +84,22 @@ fn parts_with(plan: TestedPlan, p: Slot, fast: Node) -> Parts
     }
 }
 
-// The parts of the run shown for a rule.
+// The parts of the run shown for a rule. (Of what was found of the plan it asks for the distances and M alone, and for no verdict.)
 #[tactic(auto, unfolding(shown::specs::Parts::parts_for))]
-pub fn parts_tested(prepared: Prepared, rule: Rule) -> Parts
-    ensures { result ≡ parts_for prepared.plan.plan rule }
+pub fn parts_tested(plan: TestedPlan, distances: Distances, gap: Slot, rule: Rule) -> Parts
+    requires distances_value { distances ≡ distances_of plan.plan }
+    requires gap_value { gap.0 ≡ gap_of plan.plan }
+    ensures { result ≡ parts_for plan.plan rule }
 {
-    let plan = prepared.plan;
     match rule {
         Rule::One => {
-            let p = widest_from(prepared);
-            let fast = widest_node(prepared, p);
+            let p = widest_from(plan, distances, gap);
+            let fast = widest_node(plan, distances, gap, p);
             parts_with(plan, p, fast)
         }
         Rule::Two => {
-            let p = widest_from(prepared);
-            let widest = widest_node(prepared, p);
+            let p = widest_from(plan, distances, gap);
+            let widest = widest_node(plan, distances, gap, p);
             let s = plan.plan.slots[widest.0 as usize];
             let fast = first_silent(plan, p, s);
             parts_with(plan, p, fast)

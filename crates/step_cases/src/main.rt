@@ -3,18 +3,14 @@
 #![tactic(auto)]
 
 use case_lines::{asked, each_case, number};
-use letters::{Letter, Spelt};
+use letters::step_by;
 use plan::{Node, Plan, Refusal, Slot};
 use run::{Mode, NodeState, Run, Step};
 use std::io;
 
 // What is asked: a step by its letter, a send where it is none, and its number.
 fn step_in(parts: &[u8]) -> Step {
-    let letter = asked(parts).and_then(|byte| Letter::try_from(byte).ok());
-    Step::from(Spelt {
-        letter: letter.unwrap_or(Letter::S),
-        number: number(parts, 0, 0).unwrap_or(0),
-    })
+    step_by(asked(parts).unwrap_or(0), number(parts, 0, 0).unwrap_or(0))
 }
 
 fn node_words(rt: &impl Print, node: NodeState) -> io::Result<()> {

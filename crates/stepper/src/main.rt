@@ -2,6 +2,8 @@
 // `ok` or `refused` and its number. The plan is tested once; answers are written in blocks.
 #![tactic(auto)]
 
+ghost use Rattle.std.specs.Prelude.{◌≡◌};
+
 use lines::write_answer;
 use pages::Page;
 use plan::{Refusal, TestedPlan};
@@ -19,8 +21,10 @@ struct Desk {
     reading: Reading,
 }
 
-// The line ends here: the step that it asks for is done, or refused.
-fn line_done(desk: &mut Desk) -> Result<(), Refusal> {
+// The line ends here: the step that it asks for is done, or refused. The plan stays.
+fn line_done(desk: &mut Desk) -> Result<(), Refusal>
+    ensures { desk.new.run.plan.plan ≡ desk.old.run.plan.plan }
+{
     let line = reading_end(desk.reading);
     desk.reading = Reading::Nothing;
     desk.run = steps::step_in_range(desk.run, line?)?;
@@ -31,8 +35,10 @@ fn put_answer(rt: &impl Print, page: &mut Page, answer: Result<(), Refusal>) -> 
     page.add(rt, |out, at| write_answer(out, at, answer))
 }
 
-// Every line that ends in the block is answered.
-fn block_done(rt: &impl Print, desk: &mut Desk, block: &[u8], page: &mut Page) -> io::Result<()> {
+// Every line that ends in the block is answered. The plan stays, so the run is in range of it after the block too.
+fn block_done(rt: &impl Print, desk: &mut Desk, block: &[u8], page: &mut Page) -> io::Result<()>
+    ensures { desk.new.run.plan.plan ≡ desk.old.run.plan.plan }
+{
     for byte in block {
         desk.reading = reading_byte(desk.reading, *byte);
         if *byte == b'\n' {

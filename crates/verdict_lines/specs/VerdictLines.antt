@@ -1,6 +1,7 @@
 -- The five lines of a verdict, each whole with its newline.
 use Rattle.std.specs.Prelude.{ℕ, cond, List, ◌++◌, Option, None, Some, Result, Ok, Err}
 use Rattle.plan.specs.declared.refusal.Refusal.{Refusal}
+use Rattle.plan.specs.Refusals.{number_of}
 use Rattle.rules.specs.declared.Rule.{Rule}
 use Rattle.rules.specs.declared.Rule.TheVariants.{One, Two, Three}
 use Rattle.rules.specs.declared.Sides.{Sides}
@@ -31,4 +32,4 @@ verdict_lines N v =
 -- What the judging program writes of a plan before any shown run.
 unfoldable pub judged_text : ℕ → Result Verdict Refusal → List ℕ
 judged_text N (Ok v) = verdict_lines N v
-judged_text N (Err refusal) = refused_line refusal
+judged_text N (Err refusal) = refused_line (number_of refusal)

@@ -62,7 +62,7 @@ fn put_judged(out: &mut [u8], at: usize, nodes: Node, judged: Result<Verdict, Re
 {
     match judged {
         Ok(verdict) => put_verdict(out, at, nodes, verdict),
-        Err(refusal) => put_refused(out, at, refusal),
+        Err(refusal) => put_refused(out, at, refusal.number()),
     }
 }
 

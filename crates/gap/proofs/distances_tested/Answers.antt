@@ -16,7 +16,7 @@ pub node_distance-requires : goal.node_distance-requires
 node_distance-requires c =
     let P = c.args.plan.plan in
     let at = own_at P c.loop-i.i c.loop-i-test.true in
-    (c.occupied-table.ensures, rw at.is (own_in_frame P c.args.plan.sound c.loop-i.i at.below))
+    (c.occupied.ensures, rw at.is (own_in_frame P c.args.plan.sound c.loop-i.i at.below))
 
 pub bounds-nodes-i : goal.bounds-nodes-i
 bounds-nodes-i c = omega (arith, (own_at c.args.plan.plan c.loop-i.i c.loop-i-test.true).below, c.args.plan.sound.nodes_high)

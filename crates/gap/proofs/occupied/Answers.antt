@@ -7,7 +7,7 @@ use Rattle.gap.proofs.Table.{Marked, marked_none, marked_more, own_at}
 use Rattle.gap.proofs.occupied.Goals as goal
 
 pub loop-own-init : goal.loop-own-init
-loop-own-init c = (length-replicate {A = Bool} 4096 false, marked_none c.args.plan.plan 4096)
+loop-own-init c = (rw c.requires (length-replicate 4096 false), rw c.requires (marked_none c.args.plan.plan 4096))
 
 pub loop-own-preserved : goal.loop-own-preserved
 loop-own-preserved c =

@@ -11,7 +11,7 @@ returns-in_err-seen-clause-given c =
     let P = c.args.showing.run.plan.plan in
     let parts = c.args.showing.parts in
     let q = place_of c.args.showing in
-    let late = looked_late P parts q (rw c.from.ensures at c.in_err-seen.ensures) in
+    let late = looked_late P parts q c.in_err-seen.ensures in
     let none : c.from_residual.result ≡ None = search rules in
     rw none (sym (given_late P parts q late))
 
@@ -20,7 +20,7 @@ is_out-requires c =
     let P = c.args.showing.run.plan.plan in
     let parts = c.args.showing.parts in
     let q = place_of c.args.showing in
-    (looked_on_time P parts q c.in_ok-seen.seen (rw c.from.ensures at c.in_ok-seen.ensures)).1
+    (looked_on_time P parts q c.in_ok-seen.seen c.in_ok-seen.ensures).1
 
 pub returns-then-is_out-clause-given : goal.returns-then-is_out-clause-given
 returns-then-is_out-clause-given c =
@@ -31,7 +31,7 @@ next_step-step-requires c =
     let P = c.args.showing.run.plan.plan in
     let parts = c.args.showing.parts in
     let q = place_of c.args.showing in
-    (looked_on_time P parts q c.in_ok-seen.seen (rw c.from.ensures at c.in_ok-seen.ensures)).1
+    (looked_on_time P parts q c.in_ok-seen.seen c.in_ok-seen.ensures).1
 
 -- in step and on time, the next step is legal
 pub moved-next-requires : goal.moved-next-requires
@@ -39,7 +39,7 @@ moved-next-requires c =
     let P = c.args.showing.run.plan.plan in
     let parts = c.args.showing.parts in
     let q = place_of c.args.showing in
-    let seen = looked_on_time P parts q c.in_ok-seen.seen (rw c.from.ensures at c.in_ok-seen.ensures) in
+    let seen = looked_on_time P parts q c.in_ok-seen.seen c.in_ok-seen.ensures in
     rw c.next_step-step.ensures (next_legal P parts c.args.showing.run.plan.sound q c.args.showing.run.in_range (sym c.is_out.ensures ∙ c.if-is_out.false) seen.0)
 
 pub returns-clause-given : goal.returns-clause-given
@@ -48,7 +48,7 @@ returns-clause-given c =
     let parts = c.args.showing.parts in
     let q = place_of c.args.showing in
     let step = c.next_step-step.result in
-    let seen = looked_on_time P parts q c.in_ok-seen.seen (rw c.from.ensures at c.in_ok-seen.ensures) in
+    let seen = looked_on_time P parts q c.in_ok-seen.seen c.in_ok-seen.ensures in
     let together = sym c.is_out.ensures ∙ c.if-is_out.false in
     let legal = next_legal P parts c.args.showing.run.plan.sound q c.args.showing.run.in_range together seen.0 in
     let taken = given_takes P parts q step (sym c.next_step-step.ensures) together seen.0 (rw c.next_step-step.ensures legal) in

@@ -10,13 +10,13 @@ use Rattle.shown_parts.proofs.parts_tested.Goals as goal
 
 pub bounds-plan-widest : goal.bounds-plan-widest
 bounds-plan-widest c =
-    let o = c.args.prepared.plan.sound in
-    omega (arith, c.widest_node-widest.ensures, o.nodes_high, (widest c.args.prepared.plan.plan o).below)
+    let o = c.args.plan.sound in
+    omega (arith, c.widest_node-widest.ensures, o.nodes_high, (widest c.args.plan.plan o).below)
 
 pub returns-in-Two : goal.returns-in-Two
 unfolding parts_for
 returns-in-Two c =
-    let P = c.args.prepared.plan.plan in
+    let P = c.args.plan.plan in
     let p = c.widest_from-p-in-Two.ensures in
     let s = ap (own P) c.widest_node-widest.ensures in
     rw c.in-Two.is
@@ -25,6 +25,6 @@ returns-in-Two c =
 pub returns-in-Three : goal.returns-in-Three
 unfolding parts_for
 returns-in-Three c =
-    let P = c.args.prepared.plan.plan in
+    let P = c.args.plan.plan in
     rw c.in-Three.is
     (c.parts_with-in-Three.ensures ∙ ap (parts_with P 0) (c.first_silent-fast-in-Three.ensures ∙ λ j. first_below P.nodes.0 (λ i. and_self (silent_in P 0 i) j)))

@@ -11,9 +11,10 @@ use Rattle.shown_parts.proofs.widest_node.Goals as goal
 pub returns : goal.returns
 unfolding widest_node
 returns c =
-    let prepared = c.args.prepared in
-    let P = prepared.plan.plan in
-    let nodes = prepared.distances.nodes in
+    let plan = c.args.plan in
+    let P = plan.plan in
+    let gap = c.args.gap in
+    let nodes = c.args.distances.nodes in
     let from = c.args.from.0 in
-    c.unwrap_or.ensures ∙ first_or_end _ _ (position_in (λ (x : NodeDistance). eqb (held prepared x) from) nodes P.nodes.0 no_distance _ _ (search rules) c.position-found.ensures.ran (YieldsList-from_slice _ cc) (λ x b q k. search (rules, tests)))
-    ∙ first_same P.nodes.0 (λ i. eqb (held prepared (get_or nodes i no_distance)) from) (λ i. eqb (predecessor_at P (gap_of P) i) (widest_from P)) (λ i h. rw (predecessor_held prepared i h, c.requires))
+    c.unwrap_or.ensures ∙ first_or_end _ _ (position_in (λ (x : NodeDistance). eqb (held plan gap x) from) nodes P.nodes.0 no_distance _ _ (search rules) c.position-found.ensures.ran (YieldsList-from_slice _ cc) (λ x b q k. search (rules, tests)))
+    ∙ first_same P.nodes.0 (λ i. eqb (held plan gap (get_or nodes i no_distance)) from) (λ i. eqb (predecessor_at P (gap_of P) i) (widest_from P)) (λ i h. rw (predecessor_held plan c.args.distances gap c.requires.distances_value c.requires.gap_value i h, c.requires.from_value))
